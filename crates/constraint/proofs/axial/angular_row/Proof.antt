@@ -1,0 +1,7 @@
+use Rattle.constraint.specs.Axial.{angularRow}
+use Rattle.constraint.proofs.axial.angular_row.Statement.{statement}
+use Rattle.constraint.proofs.axial.angular_row.Tie as tie
+
+pub angular-row-spec : {M : Type 1} → statement M
+unfolding angularRow
+angular-row-spec = tie.close (tie.spec (λ c κs. tt) (λ c κs. tt) (λ c κs. tt) (λ c κs. tt) (λ c κs. tt) (λ c κs. tt) (λ c. rw (← (c .before .before .before .before .before .sub .ensures), ← (c .before .before .before .before .add .ensures), ← (c .before .before .before .mul-mv .ensures), ← (c .before .before .soft-impulse3 .ensures), ← (c .before .add2 .ensures), ← (c .apply-angular .ensures))))

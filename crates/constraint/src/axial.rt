@@ -1,0 +1,101 @@
+// Rows about one axis: the limits, and the angular row of three dimensions with its softness.
+ghost use mathlib.Core.Path.{_≡_};
+ghost use Rattle.constraint.specs.Axial as D;
+use crate::soft::SoftBias;
+use crate::soft::SoftBias3;
+use crate::soft::soft_impulse;
+use crate::soft::soft_impulse3;
+use crate::velocity::InvMasses;
+use crate::velocity::Velocities;
+use crate::velocity::apply_angular;
+use crate::velocity::apply_axial;
+use crate::velocity::apply_axial_flipped;
+use math_functions::matrix::mul_mv;
+use math_functions::scalar::max_float;
+use math_functions::types::Matrix3;
+use math_functions::types::Vec3;
+use math_functions::vector::add;
+use math_functions::vector::dot;
+use math_functions::vector::sub;
+
+// What a row of one dimension leaves: its impulse, and the velocities.
+pub struct AxialRow {
+    pub impulse: f32,
+    pub velocities: Velocities,
+}
+
+// What a row of three dimensions leaves.
+pub struct Row3 {
+    pub impulse: Vec3,
+    pub velocities: Velocities,
+}
+
+// Rows but the point row are worked unless the rotation is fixed.
+pub fn is_worked(enabled: bool, fixed_rotation: bool) -> bool
+    ensures { λ r. ⌜ r ≡ D.isWorked enabled «fixed_rotation» ⌝ }
+{
+    enabled && !fixed_rotation
+}
+
+// A lower limit: the impulse pushes B about the axis, and never pulls.
+pub fn lower_limit_row(
+    s: SoftBias,
+    mass: f32,
+    axis: Vec3,
+    old_impulse: f32,
+    m: InvMasses,
+    v: Velocities,
+) -> AxialRow
+    ensures { λ r. ⌜ r ≡ D.lowerLimitRow s mass axis «old_impulse» m v ⌝ }
+{
+    let cdot = dot(sub(v.w_b, v.w_a), axis);
+    let delta_impulse = soft_impulse(s, mass, cdot, old_impulse);
+    let impulse = max_float(old_impulse + delta_impulse, 0.0);
+    let velocities = apply_axial(m, impulse - old_impulse, axis, v);
+    AxialRow {
+        impulse,
+        velocities,
+    }
+}
+
+// An upper limit or a cone: sign flipped on cdot and on the applied impulse.
+pub fn upper_limit_row(
+    s: SoftBias,
+    mass: f32,
+    axis: Vec3,
+    old_impulse: f32,
+    m: InvMasses,
+    v: Velocities,
+) -> AxialRow
+    ensures { λ r. ⌜ r ≡ D.upperLimitRow s mass axis «old_impulse» m v ⌝ }
+{
+    let cdot = dot(sub(v.w_a, v.w_b), axis);
+    let delta_impulse = soft_impulse(s, mass, cdot, old_impulse);
+    let impulse = max_float(old_impulse + delta_impulse, 0.0);
+    let velocities = apply_axial_flipped(m, impulse - old_impulse, axis, v);
+    AxialRow {
+        impulse,
+        velocities,
+    }
+}
+
+// The angular row: weld's, and spherical's spring.
+pub fn angular_row(
+    s: SoftBias3,
+    mass: Matrix3,
+    old_impulse: Vec3,
+    m: InvMasses,
+    v: Velocities,
+) -> Row3
+    ensures { λ r. ⌜ r ≡ D.angularRow s mass «old_impulse» m v ⌝ }
+{
+    let cdot = sub(v.w_b, v.w_a);
+    let b = mul_mv(mass, add(cdot, s.bias));
+    let delta_impulse = soft_impulse3(s, b, old_impulse);
+    let impulse = add(old_impulse, delta_impulse);
+    let velocities = apply_angular(m, delta_impulse, v);
+    Row3 {
+        impulse,
+        velocities,
+    }
+}

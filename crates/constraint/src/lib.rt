@@ -1,0 +1,7 @@
+// What the constraint rows of the three joint kinds share, where the Rust's text is the same.
+pub mod axial;
+pub mod point;
+pub mod prepare;
+pub mod rotation;
+pub mod soft;
+pub mod velocity;

@@ -1,0 +1,9 @@
+pub mod Float
+pub mod Types
+pub mod Scalar
+pub mod Vector
+pub mod Internal
+pub mod Quat
+pub mod Matrix
+pub mod Transform
+pub mod Constants

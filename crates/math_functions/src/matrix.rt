@@ -1,0 +1,206 @@
+// Matrix3 operations and the 2x2 matrix of the revolute joint.
+ghost use mathlib.Core.Path.{_≡_};
+ghost use Rattle.math_functions.specs.Matrix as D;
+use crate::scalar::abs_float;
+use crate::types::MAT3_ZERO;
+use crate::types::MIN_POSITIVE;
+use crate::types::Matrix3;
+use crate::types::VEC3_ZERO;
+use crate::types::Vec2;
+use crate::types::Vec3;
+use crate::vector::cross;
+use crate::vector::dot;
+use crate::vector::mul_sv;
+
+// A 2x2 matrix, stored as columns.
+pub struct Mat2 {
+    pub cx: Vec2,
+    pub cy: Vec2,
+}
+
+// Compute the determinant of a 3-by-3 matrix.
+pub fn det(m: Matrix3) -> f32
+    ensures { λ r. ⌜ r ≡ D.det m ⌝ }
+{
+    dot(m.cx, cross(m.cy, m.cz))
+}
+
+// Multiply a matrix times a column vector.
+pub fn mul_mv(m: Matrix3, a: Vec3) -> Vec3
+    ensures { λ r. ⌜ r ≡ D.mulMv m a ⌝ }
+{
+    Vec3 {
+        x: m.cx.x * a.x + m.cy.x * a.y + m.cz.x * a.z,
+        y: m.cx.y * a.x + m.cy.y * a.y + m.cz.y * a.z,
+        z: m.cx.z * a.x + m.cy.z * a.y + m.cz.z * a.z,
+    }
+}
+
+// Negate a matrix.
+pub fn negate_mat3(a: Matrix3) -> Matrix3
+    ensures { λ r. ⌜ r ≡ D.negateMat3 a ⌝ }
+{
+    Matrix3 {
+        cx: Vec3 {
+            x: -a.cx.x,
+            y: -a.cx.y,
+            z: -a.cx.z,
+        },
+        cy: Vec3 {
+            x: -a.cy.x,
+            y: -a.cy.y,
+            z: -a.cy.z,
+        },
+        cz: Vec3 {
+            x: -a.cz.x,
+            y: -a.cz.y,
+            z: -a.cz.z,
+        },
+    }
+}
+
+// Matrix addition.
+pub fn add_mm(a: Matrix3, b: Matrix3) -> Matrix3
+    ensures { λ r. ⌜ r ≡ D.addMm a b ⌝ }
+{
+    Matrix3 {
+        cx: Vec3 {
+            x: a.cx.x + b.cx.x,
+            y: a.cx.y + b.cx.y,
+            z: a.cx.z + b.cx.z,
+        },
+        cy: Vec3 {
+            x: a.cy.x + b.cy.x,
+            y: a.cy.y + b.cy.y,
+            z: a.cy.z + b.cy.z,
+        },
+        cz: Vec3 {
+            x: a.cz.x + b.cz.x,
+            y: a.cz.y + b.cz.y,
+            z: a.cz.z + b.cz.z,
+        },
+    }
+}
+
+// Matrix multiplication.
+pub fn mul_mm(a: Matrix3, b: Matrix3) -> Matrix3
+    ensures { λ r. ⌜ r ≡ D.mulMm a b ⌝ }
+{
+    Matrix3 {
+        cx: mul_mv(a, b.cx),
+        cy: mul_mv(a, b.cy),
+        cz: mul_mv(a, b.cz),
+    }
+}
+
+// Matrix transpose.
+pub fn transpose(m: Matrix3) -> Matrix3
+    ensures { λ r. ⌜ r ≡ D.transpose m ⌝ }
+{
+    Matrix3 {
+        cx: Vec3 {
+            x: m.cx.x,
+            y: m.cy.x,
+            z: m.cz.x,
+        },
+        cy: Vec3 {
+            x: m.cx.y,
+            y: m.cy.y,
+            z: m.cz.y,
+        },
+        cz: Vec3 {
+            x: m.cx.z,
+            y: m.cy.z,
+            z: m.cz.z,
+        },
+    }
+}
+
+// General matrix inverse.
+pub fn invert_matrix(m: Matrix3) -> Matrix3
+    ensures { λ r. ⌜ r ≡ D.invertMatrix m ⌝ }
+{
+    let d = det(m);
+    if abs_float(d) > 1000.0 * MIN_POSITIVE {
+        let inv_det = 1.0 / d;
+        let out = Matrix3 {
+            cx: mul_sv(inv_det, cross(m.cy, m.cz)),
+            cy: mul_sv(inv_det, cross(m.cz, m.cx)),
+            cz: mul_sv(inv_det, cross(m.cx, m.cy)),
+        };
+
+        transpose(out)
+    } else {
+        MAT3_ZERO
+    }
+}
+
+// Solve a matrix equation: inv(m) * a
+pub fn solve3(m: Matrix3, a: Vec3) -> Vec3
+    ensures { λ r. ⌜ r ≡ D.solve3 m a ⌝ }
+{
+    let d = det(m);
+    if abs_float(d) > 1000.0 * MIN_POSITIVE {
+        let inv_det = 1.0 / d;
+        let s = Matrix3 {
+            cx: cross(m.cy, m.cz),
+            cy: cross(m.cz, m.cx),
+            cz: cross(m.cx, m.cy),
+        };
+
+        Vec3 {
+            x: inv_det * dot(s.cx, a),
+            y: inv_det * dot(s.cy, a),
+            z: inv_det * dot(s.cz, a),
+        }
+    } else {
+        VEC3_ZERO
+    }
+}
+
+// The determinant of a 2-by-2 matrix.
+pub fn det2(m: Mat2) -> f32
+    ensures { λ r. ⌜ r ≡ D.det2 m ⌝ }
+{
+    m.cx.x * m.cy.y - m.cx.y * m.cy.x
+}
+
+// Solve A * x = b for a 2-by-2 matrix. Assumes positive semi-definite: a determinant below zero
+// gives zeros, as one that is too small does.
+pub fn solve2(m: Mat2, b: Vec2) -> Vec2
+    ensures { λ r. ⌜ r ≡ D.solve2 m b ⌝ }
+{
+    let d = det2(m);
+    if d > 1000.0 * MIN_POSITIVE {
+        let inv_det = 1.0 / d;
+        Vec2 {
+            x: inv_det * m.cy.y * b.x - inv_det * m.cy.x * b.y,
+            y: -inv_det * m.cx.y * b.x + inv_det * m.cx.x * b.y,
+        }
+    } else {
+        Vec2 { x: 0.0, y: 0.0 }
+    }
+}
+
+// Skew-symmetric cross-product matrix.
+pub fn skew(v: Vec3) -> Matrix3
+    ensures { λ r. ⌜ r ≡ D.skew v ⌝ }
+{
+    Matrix3 {
+        cx: Vec3 {
+            x: 0.0,
+            y: v.z,
+            z: -v.y,
+        },
+        cy: Vec3 {
+            x: -v.z,
+            y: 0.0,
+            z: v.x,
+        },
+        cz: Vec3 {
+            x: v.y,
+            y: -v.x,
+            z: 0.0,
+        },
+    }
+}

@@ -1,0 +1,150 @@
+// Joint records: the three kinds, the union of them, and the part that all kinds share.
+use math_functions::types::Matrix3;
+use math_functions::types::Quat;
+use math_functions::types::Transform;
+use math_functions::types::Vec2;
+use math_functions::types::Vec3;
+use solver::Softness;
+
+// Joint type enumeration.
+pub enum JointType {
+    Parallel,
+    Distance,
+    Filter,
+    Motor,
+    Prismatic,
+    Revolute,
+    Spherical,
+    Weld,
+    Wheel,
+}
+
+pub struct RevoluteJoint {
+    pub linear_impulse: Vec3,
+    pub perp_impulse: Vec2,
+    pub spring_impulse: f32,
+    pub motor_impulse: f32,
+    pub lower_impulse: f32,
+    pub upper_impulse: f32,
+    pub hertz: f32,
+    pub damping_ratio: f32,
+    pub max_motor_torque: f32,
+    pub motor_speed: f32,
+    pub target_angle: f32,
+    pub lower_angle: f32,
+    pub upper_angle: f32,
+
+    pub index_a: i32,
+    pub index_b: i32,
+    pub frame_a: Transform,
+    pub frame_b: Transform,
+    pub rotation_axis_z: Vec3,
+    pub perp_axis_x: Vec3,
+    pub perp_axis_y: Vec3,
+    pub delta_center: Vec3,
+    pub delta_angle: f32,
+    pub axial_mass: f32,
+    pub spring_softness: Softness,
+
+    pub enable_spring: bool,
+    pub enable_motor: bool,
+    pub enable_limit: bool,
+}
+
+pub struct SphericalJoint {
+    pub linear_impulse: Vec3,
+    pub spring_impulse: Vec3,
+    pub motor_impulse: Vec3,
+    pub lower_twist_impulse: f32,
+    pub upper_twist_impulse: f32,
+    pub swing_impulse: f32,
+    pub hertz: f32,
+    pub damping_ratio: f32,
+    pub max_motor_torque: f32,
+    pub motor_velocity: Vec3,
+    pub lower_twist_angle: f32,
+    pub upper_twist_angle: f32,
+    pub cone_angle: f32,
+    pub target_rotation: Quat,
+
+    pub index_a: i32,
+    pub index_b: i32,
+    pub frame_a: Transform,
+    pub frame_b: Transform,
+    pub delta_center: Vec3,
+    pub swing_axis: Vec3,
+    pub twist_jacobian: Vec3,
+
+    pub rotation_mass: Matrix3,
+    pub swing_mass: f32,
+    pub twist_mass: f32,
+    pub spring_softness: Softness,
+
+    pub enable_spring: bool,
+    pub enable_motor: bool,
+    pub enable_cone_limit: bool,
+    pub enable_twist_limit: bool,
+}
+
+pub struct WeldJoint {
+    pub linear_hertz: f32,
+    pub linear_damping_ratio: f32,
+    pub angular_hertz: f32,
+    pub angular_damping_ratio: f32,
+
+    pub linear_spring: Softness,
+    pub angular_spring: Softness,
+    pub linear_impulse: Vec3,
+    pub angular_impulse: Vec3,
+
+    pub index_a: i32,
+    pub index_b: i32,
+    pub frame_a: Transform,
+    pub frame_b: Transform,
+    pub delta_center: Vec3,
+
+    pub angular_mass: Matrix3,
+}
+
+// The joint's kind with its record. The kinds that are not ported share one empty case.
+pub enum JointUnion {
+    Revolute(RevoluteJoint),
+    Spherical(SphericalJoint),
+    Weld(WeldJoint),
+    Other,
+}
+
+// The base joint simulation class, all but the union.
+pub struct JointBase {
+    pub joint_id: i32,
+
+    pub body_id_a: i32,
+    pub body_id_b: i32,
+
+    pub type_: JointType,
+
+    // Joint frames local to body origin
+    pub local_frame_a: Transform,
+    pub local_frame_b: Transform,
+
+    pub inv_mass_a: f32,
+    pub inv_mass_b: f32,
+    pub inv_i_a: Matrix3,
+    pub inv_i_b: Matrix3,
+
+    pub constraint_hertz: f32,
+    pub constraint_damping_ratio: f32,
+
+    pub constraint_softness: Softness,
+
+    pub force_threshold: f32,
+    pub torque_threshold: f32,
+
+    pub fixed_rotation: bool,
+}
+
+// A joint: the Rust's JointSim in two parts, since the rows read the first part of every kind.
+pub struct JointSim {
+    pub base: JointBase,
+    pub union_: JointUnion,
+}

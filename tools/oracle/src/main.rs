@@ -1,0 +1,76 @@
+//! Writes lists of test cases: which function, the input words, the words that the published Rust
+//! answered. See README.md.
+
+mod cases;
+mod draw;
+mod edges;
+mod leaves;
+mod words;
+
+/// The published files and the stubs beside them. Most of what they hold is not called here.
+macro_rules! published {
+    ($($name:ident)+) => {
+        $(#[allow(warnings)] mod $name;)+
+    };
+}
+
+published! {
+    body constants constraint_graph contact core geometry id island joint manifold math_functions
+    rapidhash recording solver solver_set types world
+}
+
+use cases::{List, Step};
+use std::io::{self, ErrorKind};
+use std::process::ExitCode;
+
+/// The groups of cases, in the order of their counts on the command line.
+const GROUPS: &[(&str, fn(u64, &mut List) -> Step)] = &[("LEAVES", leaves::write)];
+
+/// What the command line asks for.
+enum Task {
+    /// The seed, and how many cases of each group.
+    Cases(u64, Vec<u64>),
+    AllRoots,
+}
+
+fn parse(arguments: &[String]) -> Option<Task> {
+    match arguments {
+        [word] if word == "all-sqrt" => Some(Task::AllRoots),
+        [seed, counts @ ..] if !counts.is_empty() && counts.len() <= GROUPS.len() => {
+            let counts: Result<_, _> = counts.iter().map(|count| count.parse()).collect();
+            Some(Task::Cases(seed.parse().ok()?, counts.ok()?))
+        }
+        _ => None,
+    }
+}
+
+fn write(task: Task) -> io::Result<()> {
+    let mut list = List::new(Box::new(io::stdout().lock()));
+    match task {
+        Task::Cases(seed, counts) => {
+            for (count, (_, group)) in counts.into_iter().zip(GROUPS) {
+                list.group(count, |list| group(seed, list))?;
+            }
+        }
+        Task::AllRoots => list.group(1 << 32, leaves::write_all_roots)?,
+    }
+    list.flush()
+}
+
+fn main() -> ExitCode {
+    let arguments: Vec<String> = std::env::args().skip(1).collect();
+    let Some(task) = parse(&arguments) else {
+        let groups: Vec<&str> = GROUPS.iter().map(|(name, _)| *name).collect();
+        eprintln!("usage: oracle SEED {} | oracle all-sqrt", groups.join(" "));
+        return ExitCode::from(2);
+    };
+    match write(task) {
+        Ok(()) => ExitCode::SUCCESS,
+        // Who reads has read enough.
+        Err(error) if error.kind() == ErrorKind::BrokenPipe => ExitCode::SUCCESS,
+        Err(error) => {
+            eprintln!("The list cannot be written: {error}.");
+            ExitCode::FAILURE
+        }
+    }
+}

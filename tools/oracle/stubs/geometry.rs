@@ -1,0 +1,4 @@
+//! Stands for geometry.rs: a record that body/types.rs holds.
+
+#[derive(Debug, Clone, Copy, PartialEq, Default)]
+pub struct PlaneResult;

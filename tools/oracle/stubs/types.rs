@@ -1,0 +1,6 @@
+//! Stands for types.rs: the kinds of bodies.
+
+#[derive(Debug, Clone, Copy, PartialEq, Eq)]
+pub enum BodyType {
+    Static,
+}
