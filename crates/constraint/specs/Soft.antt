@@ -5,7 +5,7 @@ use Rattle.math_functions.specs.declared.types.Vec2.{Vec2}
 use Rattle.math_functions.specs.declared.types.Vec3.{Vec3}
 use Rattle.math_functions.specs.Float.{_⊕_, _⊖_, _⊗_, neg, gt, zero, one}
 use Rattle.math_functions.specs.Types.{vec2Zero, vec3Zero}
-use Rattle.math_functions.specs.Vector.{mulSub, mulSv}
+use Rattle.math_functions.specs.Vector.{sub, mulSub, mulSv}
 use Rattle.math_functions.specs.Internal.{mulSv2}
 use Rattle.solver.specs.declared.Softness.{Softness}
 use Rattle.constraint.specs.declared.soft.SoftBias.{SoftBias}
@@ -46,5 +46,10 @@ limitBias c s invH useBias = cond (gt c zero) (scaled (c ⊗ invH) one zero) (co
 unfoldable pub softImpulse : SoftBias → Float → Float → Float → Float
 softImpulse s mass cdot oldImpulse = neg (s .«mass_scale») ⊗ mass ⊗ (cdot ⊕ s .bias) ⊖ s .«impulse_scale» ⊗ oldImpulse
 
+-- weld's rows, spherical's spring and point row
 unfoldable pub softImpulse3 : SoftBias3 → Vec3 → Vec3 → Vec3
 softImpulse3 s b oldImpulse = mulSub (mulSv (neg (s .«mass_scale»)) b) (s .«impulse_scale») oldImpulse
+
+-- revolute's point row subtracts two products where the others use mul_sub
+unfoldable pub softImpulse3Products : SoftBias3 → Vec3 → Vec3 → Vec3
+softImpulse3Products s b oldImpulse = sub (mulSv (neg (s .«mass_scale»)) b) (mulSv (s .«impulse_scale») oldImpulse)

@@ -1,5 +1,6 @@
 // What the constraint rows of the three joint kinds share, where the Rust's text is the same.
-pub mod axial;
+pub mod angular;
+pub mod answer;
 pub mod point;
 pub mod prepare;
 pub mod rotation;

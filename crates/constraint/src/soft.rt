@@ -7,6 +7,7 @@ use math_functions::types::Vec2;
 use math_functions::types::Vec3;
 use math_functions::vector::mul_sub;
 use math_functions::vector::mul_sv;
+use math_functions::vector::sub;
 use solver::Softness;
 
 pub struct SoftBias {
@@ -111,4 +112,14 @@ pub fn soft_impulse3(s: SoftBias3, b: Vec3, old_impulse: Vec3) -> Vec3
     ensures { λ r. ⌜ r ≡ D.softImpulse3 s b «old_impulse» ⌝ }
 {
     mul_sub(mul_sv(-s.mass_scale, b), s.impulse_scale, old_impulse)
+}
+
+// The same impulse as revolute's point row writes it: the second product is taken by itself.
+pub fn soft_impulse3_products(s: SoftBias3, b: Vec3, old_impulse: Vec3) -> Vec3
+    ensures { λ r. ⌜ r ≡ D.softImpulse3Products s b «old_impulse» ⌝ }
+{
+    sub(
+        mul_sv(-s.mass_scale, b),
+        mul_sv(s.impulse_scale, old_impulse),
+    )
 }

@@ -1,6 +1,6 @@
-use Rattle.constraint.specs.Axial.{upperLimitRow}
-use Rattle.constraint.proofs.axial.upper_limit_row.Statement.{statement}
-use Rattle.constraint.proofs.axial.upper_limit_row.Tie as tie
+use Rattle.constraint.specs.Angular.{upperLimitRow}
+use Rattle.constraint.proofs.angular.upper_limit_row.Statement.{statement}
+use Rattle.constraint.proofs.angular.upper_limit_row.Tie as tie
 
 pub upper-limit-row-spec : {M : Type 1} → statement M
 unfolding upperLimitRow

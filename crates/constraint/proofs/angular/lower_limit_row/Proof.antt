@@ -1,6 +1,6 @@
-use Rattle.constraint.specs.Axial.{lowerLimitRow}
-use Rattle.constraint.proofs.axial.lower_limit_row.Statement.{statement}
-use Rattle.constraint.proofs.axial.lower_limit_row.Tie as tie
+use Rattle.constraint.specs.Angular.{lowerLimitRow}
+use Rattle.constraint.proofs.angular.lower_limit_row.Statement.{statement}
+use Rattle.constraint.proofs.angular.lower_limit_row.Tie as tie
 
 pub lower-limit-row-spec : {M : Type 1} → statement M
 unfolding lowerLimitRow

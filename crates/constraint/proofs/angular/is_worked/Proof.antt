@@ -1,6 +1,6 @@
-use Rattle.constraint.specs.Axial.{isWorked}
-use Rattle.constraint.proofs.axial.is_worked.Statement.{statement}
-use Rattle.constraint.proofs.axial.is_worked.Tie as tie
+use Rattle.constraint.specs.Angular.{isWorked}
+use Rattle.constraint.proofs.angular.is_worked.Statement.{statement}
+use Rattle.constraint.proofs.angular.is_worked.Tie as tie
 
 returns : tie.Need-returns
 unfolding isWorked

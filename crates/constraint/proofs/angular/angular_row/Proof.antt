@@ -1,6 +1,6 @@
-use Rattle.constraint.specs.Axial.{angularRow}
-use Rattle.constraint.proofs.axial.angular_row.Statement.{statement}
-use Rattle.constraint.proofs.axial.angular_row.Tie as tie
+use Rattle.constraint.specs.Angular.{angularRow}
+use Rattle.constraint.proofs.angular.angular_row.Statement.{statement}
+use Rattle.constraint.proofs.angular.angular_row.Tie as tie
 
 pub angular-row-spec : {M : Type 1} → statement M
 unfolding angularRow

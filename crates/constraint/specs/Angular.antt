@@ -1,26 +1,33 @@
--- Rows about one axis: the limits, and the angular row of three dimensions with its softness. Definitions only. Assumes nothing.
-use mathlib.Core.Bool.{Bool, not, _&&_}
+-- Angular rows: the limits about an axis, and the row of three dimensions with its softness. Definitions only. Assumes nothing.
+use mathlib.Core.Bool.{Bool, not, cond, _&&_}
 use lib.Ieee.{Float}
 use Rattle.math_functions.specs.declared.types.Vec3.{Vec3}
+use Rattle.math_functions.specs.declared.types.Quat.{Quat}
 use Rattle.math_functions.specs.declared.types.Matrix3.{Matrix3}
 use Rattle.math_functions.specs.Float.{_⊕_, _⊖_, zero}
 use Rattle.math_functions.specs.Scalar.{maxFloat}
 use Rattle.math_functions.specs.Vector.{add, sub, dot}
+use Rattle.math_functions.specs.Quat.{getTwistAngle}
 use Rattle.math_functions.specs.Matrix.{mulMv}
+use Rattle.solver.specs.declared.Softness.{Softness}
 use Rattle.constraint.specs.declared.velocity.Velocities.{Velocities}
 use Rattle.constraint.specs.declared.velocity.InvMasses.{InvMasses}
 use Rattle.constraint.specs.declared.soft.SoftBias.{SoftBias}
 use Rattle.constraint.specs.declared.soft.SoftBias3.{SoftBias3}
-use Rattle.constraint.specs.declared.axial.AxialRow.{AxialRow}
-use Rattle.constraint.specs.declared.axial.Row3.{Row3}
+use Rattle.constraint.specs.declared.angular.AxialRow.{AxialRow}
+use Rattle.constraint.specs.declared.angular.Row3.{Row3}
+use Rattle.constraint.specs.declared.angular.LimitRows.{LimitRows}
 use Rattle.constraint.specs.Velocity.{applyAxial, applyAxialFlipped, applyAngular}
-use Rattle.constraint.specs.Soft.{softImpulse, softImpulse3}
+use Rattle.constraint.specs.Soft.{limitBias, softImpulse, softImpulse3}
 
 abbrev pub axialRow : Float → Velocities → AxialRow
 axialRow impulse velocities = record { impulse = impulse; velocities = velocities }
 
 abbrev pub row3 : Vec3 → Velocities → Row3
 row3 impulse velocities = record { impulse = impulse; velocities = velocities }
+
+abbrev pub limitRows : Float → Float → Velocities → LimitRows
+limitRows lowerImpulse upperImpulse velocities = record { «lower_impulse» = lowerImpulse; «upper_impulse» = upperImpulse; velocities = velocities }
 
 -- all but the point row are skipped when rotation is fixed
 unfoldable pub isWorked : Bool → Bool → Bool
@@ -46,3 +53,11 @@ angularRow s mass oldImpulse m v =
     let cdot = sub (v .«w_b») (v .«w_a») in
     let impulse = softImpulse3 s (mulMv mass (add cdot (s .bias))) oldImpulse in
     row3 (add oldImpulse impulse) (applyAngular m impulse v)
+
+-- revolute's limit, spherical's twist limit: the lower row, then the upper row, both at the twist angle of the start
+unfoldable pub twistLimitRows : Bool → Quat → Float → Float → Softness → Float → Bool → Float → Vec3 → Float → Float → InvMasses → Velocities → LimitRows
+twistLimitRows worked relQ lowerAngle upperAngle s invH useBias mass axis oldLower oldUpper m v =
+    let angle = getTwistAngle relQ in
+    let lower = lowerLimitRow (limitBias (angle ⊖ lowerAngle) s invH useBias) mass axis oldLower m v in
+    let upper = upperLimitRow (limitBias (upperAngle ⊖ angle) s invH useBias) mass axis oldUpper m (lower .velocities) in
+    cond (not worked) (limitRows oldLower oldUpper v) (limitRows (lower .impulse) (upper .impulse) (upper .velocities))
