@@ -1,0 +1,102 @@
+// Running the cases of a block of bytes.
+ghost use Prim.Native.Nat.{_+_, _≤_};
+ghost use lib.ListN.{length};
+use crate::internal;
+use crate::matrix;
+use crate::quat;
+use crate::scalar;
+use crate::soft;
+use crate::transform;
+use crate::vector;
+use crate::words::plus;
+use crate::words::word;
+
+// How many bytes a case can have with its header: as many as the buffer holds.
+const ROOM: usize = 65536;
+
+// What the cases of a block came to.
+pub struct Block {
+    // How many bytes they take: more than the block has, where the last is too long for the buffer.
+    pub used: usize,
+    pub run: u64,
+    pub differing: u64,
+}
+
+// Whether the library answers a case as the case says. The functions are numbered in groups of
+// sixteen.
+fn agrees(f: u32, p: &[u8]) -> bool {
+    match f / 16 {
+        1 => scalar::agrees(f, p),
+        2 => vector::agrees(f, p),
+        3 => internal::agrees(f, p),
+        4 => quat::agrees(f, p),
+        5 => matrix::agrees(f, p),
+        6 => transform::agrees(f, p),
+        7 => soft::agrees(f, p),
+        _ => false,
+    }
+}
+
+// One more, which no run of the program makes wrap.
+pub fn one_more(n: u64) -> u64 {
+    std::num::wrapping_add_u64(n, 1)
+}
+
+fn one_more_unless(n: u64, is_same: bool) -> u64 {
+    if is_same { n } else { one_more(n) }
+}
+
+// How many bytes a case has, with its header.
+fn size_of(header: u32) -> usize
+    ensures { λ r. ⌜ 4 ≤ r ⌝ }
+{
+    (header / 65536 * 4 + 4) as usize
+}
+
+// Whether the case of `size` bytes at `at` is answered as it says.
+fn agrees_at(block: &[u8], at: usize, header: u32, size: usize) -> bool
+    requires { ⌜ (4 ≤ size) × (at + size ≤ length (now block)) ⌝ }
+{
+    let from = at + 4;
+    let end = at + size;
+    agrees(header % 65536, &block[from..end])
+}
+
+// The block ends before the case at `at` does. The case is left for when the rest of it has come,
+// unless the buffer cannot hold it: then it counts as differing, and is passed over.
+fn cut_at(at: usize, size: usize, run: u64, differing: u64) -> Block {
+    if size > ROOM {
+        return Block {
+            used: plus(at, size),
+            run: one_more(run),
+            differing: one_more(differing),
+        };
+    }
+    Block {
+        used: at,
+        run,
+        differing,
+    }
+}
+
+// Runs the cases that the block has whole.
+pub fn run_cases(block: &[u8]) -> Block {
+    let mut at = 0usize;
+    let mut run = 0u64;
+    let mut differing = 0u64;
+    while at < block.len() {
+        let header = word(block, at / 4);
+        let size = size_of(header);
+        if size > block.len() - at {
+            return cut_at(at, size, run, differing);
+        }
+        differing = one_more_unless(differing, agrees_at(block, at, header, size));
+        run = one_more(run);
+        at += size;
+    }
+    Block {
+        used: at,
+        run,
+        differing,
+    }
+}

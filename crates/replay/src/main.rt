@@ -1,0 +1,127 @@
+// Runs the test cases of standard input, and prints how many there are, and in how many of them the
+// library's answer is not the recorded one.
+mod cases;
+mod compare;
+mod internal;
+mod matrix;
+mod quat;
+mod scalar;
+mod soft;
+mod transform;
+mod vector;
+mod words;
+
+ghost use Prim.Native.Nat.{_≤_};
+ghost use lib.ListN.{length};
+use cases::one_more;
+use cases::run_cases;
+use libc::STDIN_FILENO;
+use libc::STDOUT_FILENO;
+use std::num::wrapping_add_u64;
+
+// How far the input has been run.
+struct State {
+    run: u64,
+    differing: u64,
+    // The bytes at the start of the buffer, of a case that is not whole yet.
+    kept: usize,
+    // The bytes still to come of a case that is too long for the buffer and has been counted.
+    skip: usize,
+    has_more: bool,
+}
+
+// The input has ended, or cannot be read. What was not run counts as a case that differs: one that
+// is cut short, or what could not be read.
+fn ended(s: State, is_broken: bool) -> State {
+    let mut t = s;
+    t.has_more = false;
+    if is_broken || s.kept > 0 {
+        t.run = one_more(s.run);
+        t.differing = one_more(s.differing);
+    }
+    t
+}
+
+// Moves the bytes from `from` up to `end` to the start of the buffer, for the rest of their case to
+// be read behind them.
+fn keep(buf: &mut [u8], from: usize, end: usize)
+    requires { ⌜ end ≤ length (now buf) ⌝ }
+{
+    if from == 0 {
+        return;
+    }
+    let mut to = 0usize;
+    let mut i = from;
+    while i < end {
+        buf[to] = buf[i];
+        to += 1;
+        i += 1;
+    }
+}
+
+// Runs the whole cases of the buffer's bytes up to `end`, and keeps the rest.
+fn run_block(buf: &mut [u8], s: State, end: usize) -> State
+    requires { ⌜ end ≤ length (now buf) ⌝ }
+{
+    let mut t = s;
+    let skip = s.skip;
+    t.kept = 0;
+    if skip >= end {
+        t.skip = skip - end;
+        return t;
+    }
+    let there = end - skip;
+    let b = run_cases(&buf[skip..end]);
+    let used = b.used;
+    t.run = wrapping_add_u64(s.run, b.run);
+    t.differing = wrapping_add_u64(s.differing, b.differing);
+    if used > there {
+        t.skip = used - there;
+        return t;
+    }
+    keep(buf, skip + used, end);
+    t.kept = there - used;
+    t.skip = 0;
+    t
+}
+
+// Reads once, behind the bytes that were kept, and runs what is there.
+fn turn(buf: &mut [u8], s: State) -> State {
+    let kept = s.kept;
+    if kept >= buf.len() {
+        return ended(s, true);
+    }
+    let got = libc::read(STDIN_FILENO, &mut buf[kept..]);
+    if got <= 0 {
+        return ended(s, got < 0);
+    }
+    let end = kept + io::count(got, &buf[kept..]);
+    run_block(buf, s, end)
+}
+
+// A proved loop has to end, and nothing says that the input does. So the loop counts its turns
+// down, from a number that no run uses up.
+fn replay(buf: &mut [u8]) -> State {
+    let mut s = State {
+        run: 0,
+        differing: 0,
+        kept: 0,
+        skip: 0,
+        has_more: true,
+    };
+    let mut turns = u64::MAX;
+    while turns > 0 && s.has_more {
+        s = turn(buf, s);
+        turns -= 1;
+    }
+    s
+}
+
+fn main() {
+    let mut buf = io::large_buffer();
+    let s = replay(&mut buf);
+    io::print_decimal(STDOUT_FILENO, s.run);
+    io::write_all(STDOUT_FILENO, b" ");
+    io::print_decimal(STDOUT_FILENO, s.differing);
+    io::write_all(STDOUT_FILENO, b"\n");
+}

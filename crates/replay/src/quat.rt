@@ -1,0 +1,30 @@
+// The cases of the quaternion functions.
+use crate::compare::answers_float;
+use crate::compare::answers_quat;
+use crate::compare::answers_vec3;
+use crate::words::quat;
+use crate::words::vec3;
+use math_functions::quat::conjugate;
+use math_functions::quat::delta_quat_to_rotation;
+use math_functions::quat::dot_quat;
+use math_functions::quat::get_swing_angle;
+use math_functions::quat::get_twist_angle;
+use math_functions::quat::inv_mul_quat;
+use math_functions::quat::mul_quat;
+use math_functions::quat::negate_quat;
+use math_functions::quat::rotate_vector;
+
+pub fn agrees(f: u32, p: &[u8]) -> bool {
+    match f {
+        0x40 => answers_vec3(p, 7, rotate_vector(quat(p, 0), vec3(p, 4))),
+        0x41 => answers_float(p, 8, dot_quat(quat(p, 0), quat(p, 4))),
+        0x42 => answers_quat(p, 8, mul_quat(quat(p, 0), quat(p, 4))),
+        0x43 => answers_quat(p, 8, inv_mul_quat(quat(p, 0), quat(p, 4))),
+        0x44 => answers_quat(p, 4, conjugate(quat(p, 0))),
+        0x45 => answers_quat(p, 4, negate_quat(quat(p, 0))),
+        0x46 => answers_float(p, 4, get_twist_angle(quat(p, 0))),
+        0x47 => answers_vec3(p, 8, delta_quat_to_rotation(quat(p, 0), quat(p, 4))),
+        0x48 => answers_float(p, 4, get_swing_angle(quat(p, 0))),
+        _ => false,
+    }
+}

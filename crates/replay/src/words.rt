@@ -1,0 +1,77 @@
+// Reading values out of the words of a case. A word has four bytes, the lowest first. Every index
+// is allowed: a word that a case does not have reads as 0, so no caller has anything to prove, and
+// a case of the wrong length is told by its count of words (compare.rt).
+use math_functions::matrix::Mat2;
+use math_functions::types::Matrix3;
+use math_functions::types::Quat;
+use math_functions::types::Vec2;
+use math_functions::types::Vec3;
+
+// A byte as a number: a callee that takes the byte asks no proof that it fits.
+fn wide(x: u8) -> u32 {
+    x as u32
+}
+
+// The word at index i.
+pub fn word(p: &[u8], i: usize) -> u32 {
+    if i < p.len() / 4 {
+        let at = i * 4;
+        return wide(p[at]) | wide(p[at + 1]) << 8 | wide(p[at + 2]) << 16 | wide(p[at + 3]) << 24;
+    }
+    0
+}
+
+// The index k words behind i. It wraps where no case reaches, so that nothing is asked of i.
+pub fn plus(i: usize, k: usize) -> usize {
+    std::num::wrapping_add_usize(i, k)
+}
+
+// The float of a pattern. A NaN's pattern, without its sign, is above infinity's. Rattle makes no
+// float of one, so a NaN is made by an operation.
+pub fn float_of(bits: u32) -> f32 {
+    if bits % 2147483648 > 2139095040 {
+        return 0.0 / 0.0;
+    }
+    f32::from_bits(bits)
+}
+
+pub fn float(p: &[u8], i: usize) -> f32 {
+    float_of(word(p, i))
+}
+
+pub fn vec2(p: &[u8], i: usize) -> Vec2 {
+    Vec2 {
+        x: float(p, i),
+        y: float(p, plus(i, 1)),
+    }
+}
+
+pub fn vec3(p: &[u8], i: usize) -> Vec3 {
+    Vec3 {
+        x: float(p, i),
+        y: float(p, plus(i, 1)),
+        z: float(p, plus(i, 2)),
+    }
+}
+
+pub fn quat(p: &[u8], i: usize) -> Quat {
+    Quat {
+        v: vec3(p, i),
+        s: float(p, plus(i, 3)),
+    }
+}
+
+pub fn mat2(p: &[u8], i: usize) -> Mat2 {
+    Mat2 {
+        cx: vec2(p, i),
+        cy: vec2(p, plus(i, 2)),
+    }
+}
+
+pub fn matrix3(p: &[u8], i: usize) -> Matrix3 {
+    Matrix3 {
+        cx: vec3(p, i),
+        cy: vec3(p, plus(i, 3)),
+        cz: vec3(p, plus(i, 6)),
+    }
+}
