@@ -4,8 +4,7 @@ use lib.Ieee.{Float}
 use Rattle.math_functions.specs.declared.types.Vec3.{Vec3}
 use Rattle.math_functions.specs.declared.types.Quat.{Quat}
 use Rattle.math_functions.specs.declared.types.Matrix3.{Matrix3}
-use Rattle.math_functions.specs.Float.{_⊕_, _⊖_, zero}
-use Rattle.math_functions.specs.Scalar.{maxFloat}
+use Rattle.math_functions.specs.Float.{_⊖_}
 use Rattle.math_functions.specs.Vector.{add, sub, dot}
 use Rattle.math_functions.specs.Quat.{getTwistAngle}
 use Rattle.math_functions.specs.Matrix.{mulMv}
@@ -18,7 +17,7 @@ use Rattle.constraint.specs.declared.angular.AxialRow.{AxialRow}
 use Rattle.constraint.specs.declared.angular.Row3.{Row3}
 use Rattle.constraint.specs.declared.angular.LimitRows.{LimitRows}
 use Rattle.constraint.specs.Velocity.{applyAxial, applyAxialFlipped, applyAngular}
-use Rattle.constraint.specs.Soft.{limitBias, softImpulse, softImpulse3}
+use Rattle.constraint.specs.Soft.{limitBias, limitImpulse, softImpulse3}
 
 abbrev pub axialRow : Float → Velocities → AxialRow
 axialRow impulse velocities = record { impulse = impulse; velocities = velocities }
@@ -33,18 +32,18 @@ limitRows lowerImpulse upperImpulse velocities = record { «lower_impulse» = lo
 unfoldable pub isWorked : Bool → Bool → Bool
 isWorked enabled fixedRotation = enabled && not fixedRotation
 
--- revolute's lower limit, spherical's lower twist limit. The impulse becomes max_float(sum, 0.0).
+-- revolute's lower limit, spherical's lower twist limit
 unfoldable pub lowerLimitRow : SoftBias → Float → Vec3 → Float → InvMasses → Velocities → AxialRow
 lowerLimitRow s mass axis oldImpulse m v =
     let cdot = dot (sub (v .«w_b») (v .«w_a»)) axis in
-    let impulse = maxFloat (oldImpulse ⊕ softImpulse s mass cdot oldImpulse) zero in
+    let impulse = limitImpulse s mass cdot oldImpulse in
     axialRow impulse (applyAxial m (impulse ⊖ oldImpulse) axis v)
 
 -- revolute's upper limit, spherical's upper twist limit and cone: sign flipped on cdot and on the applied impulse
 unfoldable pub upperLimitRow : SoftBias → Float → Vec3 → Float → InvMasses → Velocities → AxialRow
 upperLimitRow s mass axis oldImpulse m v =
     let cdot = dot (sub (v .«w_a») (v .«w_b»)) axis in
-    let impulse = maxFloat (oldImpulse ⊕ softImpulse s mass cdot oldImpulse) zero in
+    let impulse = limitImpulse s mass cdot oldImpulse in
     axialRow impulse (applyAxialFlipped m (impulse ⊖ oldImpulse) axis v)
 
 -- weld's angular row, spherical's spring

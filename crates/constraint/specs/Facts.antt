@@ -11,6 +11,7 @@ use Rattle.solver.specs.declared.Softness.{Softness}
 use Rattle.constraint.specs.declared.velocity.Velocities.{Velocities}
 use Rattle.constraint.specs.declared.velocity.InvMasses.{InvMasses}
 use Rattle.constraint.specs.declared.soft.SoftBias.{SoftBias}
+use Rattle.constraint.specs.Soft.{limitImpulse}
 use Rattle.constraint.specs.Angular.{lowerLimitRow, upperLimitRow, twistLimitRows}
 
 -- 0.0 <= x by the float comparison, which is false for a NaN
@@ -25,13 +26,17 @@ maxFloat-nonNegative x = record { compares = go (gt x zero) refl }
     go true h = rw h
     go false h = refl
 
+pub limitImpulse-nonNegative : (s : SoftBias) (mass cdot old : Float) → NonNegative (limitImpulse s mass cdot old)
+unfolding limitImpulse
+limitImpulse-nonNegative s mass cdot old = maxFloat-nonNegative _
+
 pub lowerLimitRow-nonNegative : (s : SoftBias) (mass : Float) (axis : Vec3) (old : Float) (m : InvMasses) (v : Velocities) → NonNegative (lowerLimitRow s mass axis old m v .impulse)
 unfolding lowerLimitRow
-lowerLimitRow-nonNegative s mass axis old m v = maxFloat-nonNegative _
+lowerLimitRow-nonNegative s mass axis old m v = limitImpulse-nonNegative _ _ _ _
 
 pub upperLimitRow-nonNegative : (s : SoftBias) (mass : Float) (axis : Vec3) (old : Float) (m : InvMasses) (v : Velocities) → NonNegative (upperLimitRow s mass axis old m v .impulse)
 unfolding upperLimitRow
-upperLimitRow-nonNegative s mass axis old m v = maxFloat-nonNegative _
+upperLimitRow-nonNegative s mass axis old m v = limitImpulse-nonNegative _ _ _ _
 
 -- a worked pair of limit rows
 module _ (relQ : Quat) (lowerAngle upperAngle : Float) (s : Softness) (invH : Float) (useBias : Bool) (mass : Float) (axis : Vec3) (oldLower oldUpper : Float) (m : InvMasses) (v : Velocities) where

@@ -5,6 +5,7 @@ use Rattle.math_functions.specs.declared.types.Vec2.{Vec2}
 use Rattle.math_functions.specs.declared.types.Vec3.{Vec3}
 use Rattle.math_functions.specs.Float.{_⊕_, _⊖_, _⊗_, neg, gt, zero, one}
 use Rattle.math_functions.specs.Types.{vec2Zero, vec3Zero}
+use Rattle.math_functions.specs.Scalar.{maxFloat}
 use Rattle.math_functions.specs.Vector.{sub, mulSub, mulSv}
 use Rattle.math_functions.specs.Internal.{mulSv2}
 use Rattle.solver.specs.declared.Softness.{Softness}
@@ -45,6 +46,10 @@ limitBias c s invH useBias = cond (gt c zero) (scaled (c ⊗ invH) one zero) (co
 
 unfoldable pub softImpulse : SoftBias → Float → Float → Float → Float
 softImpulse s mass cdot oldImpulse = neg (s .«mass_scale») ⊗ mass ⊗ (cdot ⊕ s .bias) ⊖ s .«impulse_scale» ⊗ oldImpulse
+
+-- document 01's limit rows: the impulse becomes max_float(sum, 0.0)
+unfoldable pub limitImpulse : SoftBias → Float → Float → Float → Float
+limitImpulse s mass cdot oldImpulse = maxFloat (oldImpulse ⊕ softImpulse s mass cdot oldImpulse) zero
 
 -- weld's rows, spherical's spring and point row
 unfoldable pub softImpulse3 : SoftBias3 → Vec3 → Vec3 → Vec3

@@ -4,7 +4,7 @@ ghost use Rattle.constraint.specs.Angular as D;
 use crate::soft::SoftBias;
 use crate::soft::SoftBias3;
 use crate::soft::limit_bias;
-use crate::soft::soft_impulse;
+use crate::soft::limit_impulse;
 use crate::soft::soft_impulse3;
 use crate::velocity::InvMasses;
 use crate::velocity::Velocities;
@@ -13,7 +13,6 @@ use crate::velocity::apply_axial;
 use crate::velocity::apply_axial_flipped;
 use math_functions::matrix::mul_mv;
 use math_functions::quat::get_twist_angle;
-use math_functions::scalar::max_float;
 use math_functions::types::Matrix3;
 use math_functions::types::Quat;
 use math_functions::types::Vec3;
@@ -60,8 +59,7 @@ pub fn lower_limit_row(
     ensures { λ r. ⌜ r ≡ D.lowerLimitRow s mass axis «old_impulse» m v ⌝ }
 {
     let cdot = dot(sub(v.w_b, v.w_a), axis);
-    let delta_impulse = soft_impulse(s, mass, cdot, old_impulse);
-    let impulse = max_float(old_impulse + delta_impulse, 0.0);
+    let impulse = limit_impulse(s, mass, cdot, old_impulse);
     let velocities = apply_axial(m, impulse - old_impulse, axis, v);
     AxialRow {
         impulse,
@@ -81,8 +79,7 @@ pub fn upper_limit_row(
     ensures { λ r. ⌜ r ≡ D.upperLimitRow s mass axis «old_impulse» m v ⌝ }
 {
     let cdot = dot(sub(v.w_a, v.w_b), axis);
-    let delta_impulse = soft_impulse(s, mass, cdot, old_impulse);
-    let impulse = max_float(old_impulse + delta_impulse, 0.0);
+    let impulse = limit_impulse(s, mass, cdot, old_impulse);
     let velocities = apply_axial_flipped(m, impulse - old_impulse, axis, v);
     AxialRow {
         impulse,

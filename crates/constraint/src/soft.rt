@@ -3,6 +3,7 @@
 ghost use mathlib.Core.Path.{_≡_};
 ghost use Rattle.constraint.specs.Soft as D;
 use math_functions::internal::mul_sv2;
+use math_functions::scalar::max_float;
 use math_functions::types::Vec2;
 use math_functions::types::Vec3;
 use math_functions::vector::mul_sub;
@@ -105,6 +106,14 @@ pub fn soft_impulse(s: SoftBias, mass: f32, cdot: f32, old_impulse: f32) -> f32
     ensures { λ r. ⌜ r ≡ D.softImpulse s mass cdot «old_impulse» ⌝ }
 {
     -s.mass_scale * mass * (cdot + s.bias) - s.impulse_scale * old_impulse
+}
+
+// The impulse of a limit after its row: it pushes and never pulls, and a NaN is dropped.
+pub fn limit_impulse(s: SoftBias, mass: f32, cdot: f32, old_impulse: f32) -> f32
+    ensures { λ r. ⌜ r ≡ D.limitImpulse s mass cdot «old_impulse» ⌝ }
+{
+    let delta_impulse = soft_impulse(s, mass, cdot, old_impulse);
+    max_float(old_impulse + delta_impulse, 0.0)
 }
 
 // The impulse of a soft row of three dimensions, where b is what the row's mass made of the error.

@@ -26,6 +26,27 @@ withVelocities state v w =
       flags = state .flags;
     }
 
+-- the state with other flags, and with another delta position: what facts on what a stage reads are stated by
+abbrev pub withFlags : BodyState → ℕ → BodyState
+withFlags state flags =
+    record {
+      «linear_velocity» = state .«linear_velocity»;
+      «angular_velocity» = state .«angular_velocity»;
+      «delta_position» = state .«delta_position»;
+      «delta_rotation» = state .«delta_rotation»;
+      flags = flags;
+    }
+
+abbrev pub withDeltaPosition : BodyState → Vec3 → BodyState
+withDeltaPosition state deltaPosition =
+    record {
+      «linear_velocity» = state .«linear_velocity»;
+      «angular_velocity» = state .«angular_velocity»;
+      «delta_position» = deltaPosition;
+      «delta_rotation» = state .«delta_rotation»;
+      flags = state .flags;
+    }
+
 -- the state as a stage stores it back: its velocities only if it is dynamic
 unfoldable pub storeVelocities : BodyState → Vec3 → Vec3 → BodyState
 storeVelocities state v w = cond (isDynamic state) (withVelocities state v w) state

@@ -1,7 +1,7 @@
 //! How inputs are drawn for parameters of given shapes.
 
 use crate::cases::{Random, PALETTE};
-use crate::words::Shape;
+use crate::words::{Parameter, Shape};
 
 const SIGN: u32 = 0x8000_0000;
 
@@ -22,13 +22,13 @@ pub fn inputs(random: &mut Random, shapes: &[Shape], words: &mut Vec<u32>) {
 }
 
 /// One of the palette.
-fn pattern(random: &mut Random) -> u32 {
+pub fn pattern(random: &mut Random) -> u32 {
     PALETTE[random.below(PALETTE.len() as u32) as usize]
 }
 
 /// A number of either sign and a size from 2^-12 to 2^12, so that most results are finite. One in
 /// four has a short fraction: such numbers cancel and tie exactly now and then.
-fn tame(random: &mut Random) -> u32 {
+pub fn tame(random: &mut Random) -> u32 {
     let exponent = 127 - 12 + random.below(24);
     let word = random.word();
     let kept = if random.one_in(4) {
@@ -49,6 +49,13 @@ fn sound(random: &mut Random, shapes: &[Shape], words: &mut Vec<u32>) {
             sound_value(random, *shape, words);
         }
     }
+}
+
+/// A value of the type, such as the functions meet in use.
+pub fn sound_of<T: Parameter>(random: &mut Random) -> T {
+    let mut words = Vec::new();
+    sound_value(random, T::SHAPE, &mut words);
+    T::read(&mut &words[..])
 }
 
 fn sound_value(random: &mut Random, shape: Shape, words: &mut Vec<u32>) {

@@ -25,7 +25,7 @@ fn targets() -> [f32; 3] {
 }
 
 /// The targets and their negatives.
-fn signed_targets() -> impl Iterator<Item = f32> {
+pub fn signed_targets() -> impl Iterator<Item = f32> {
     targets().into_iter().flat_map(|target| [target, -target])
 }
 
@@ -99,7 +99,7 @@ fn about_matrix3(matrix: Matrix3, list: &mut List) -> Step {
 
 /// Matrices that have exactly this determinant as the Rust computes it. But for the last ones they
 /// are products of it with powers of two, which nothing rounds.
-fn with_determinant(target: f32) -> Vec<Matrix3> {
+pub fn with_determinant(target: f32) -> Vec<Matrix3> {
     let factors = [target * power(40), power(-15), power(-25)];
     let mut matrices = Vec::new();
     for turn in 0..3 {
@@ -151,7 +151,7 @@ fn full_matrix3(entries: [[f32; 3]; 3], target: f32) -> Matrix3 {
 }
 
 /// Matrices with determinants of zero, NaN and the infinities.
-fn without_inverse() -> [Matrix3; 10] {
+pub fn without_inverse() -> [Matrix3; 10] {
     let diagonal = |a, b, c| matrix3([[a, 0.0, 0.0], [0.0, b, 0.0], [0.0, 0.0, c]]);
     let infinity = f32::INFINITY;
     [

@@ -5,6 +5,10 @@ mod cases;
 mod draw;
 mod edges;
 mod leaves;
+mod records;
+mod scene;
+mod stage_edges;
+mod stages;
 mod words;
 
 /// The published files and the stubs beside them. Most of what they hold is not called here.
@@ -24,7 +28,8 @@ use std::io::{self, ErrorKind};
 use std::process::ExitCode;
 
 /// The groups of cases, in the order of their counts on the command line.
-const GROUPS: &[(&str, fn(u64, &mut List) -> Step)] = &[("LEAVES", leaves::write)];
+const GROUPS: &[(&str, fn(u64, &mut List) -> Step)] =
+    &[("LEAVES", leaves::write), ("STAGES", stages::write)];
 
 /// What the command line asks for.
 enum Task {

@@ -12,38 +12,97 @@ pub trait Words: Sized {
 
     /// Appends the value to `to`.
     fn write(&self, to: &mut Vec<u32>);
+
+    /// Shows each float of the value to `visit`.
+    fn visit_floats(&mut self, visit: &mut dyn FnMut(&mut f32));
 }
 
 impl Words for f32 {
     const COUNT: usize = 1;
 
     fn read(from: &mut &[u32]) -> f32 {
-        let (first, rest) = from.split_first().expect("too few words");
-        *from = rest;
-        f32::from_bits(*first)
+        f32::from_bits(u32::read(from))
     }
 
     fn write(&self, to: &mut Vec<u32>) {
         to.push(self.to_bits());
     }
+
+    fn visit_floats(&mut self, visit: &mut dyn FnMut(&mut f32)) {
+        visit(self);
+    }
 }
 
-/// Makes a struct the words of its fields, in the order given.
+impl Words for u32 {
+    const COUNT: usize = 1;
+
+    fn read(from: &mut &[u32]) -> u32 {
+        let (first, rest) = from.split_first().expect("too few words");
+        *from = rest;
+        *first
+    }
+
+    fn write(&self, to: &mut Vec<u32>) {
+        to.push(*self);
+    }
+
+    fn visit_floats(&mut self, _: &mut dyn FnMut(&mut f32)) {}
+}
+
+impl Words for i32 {
+    const COUNT: usize = 1;
+
+    fn read(from: &mut &[u32]) -> i32 {
+        u32::read(from) as i32
+    }
+
+    fn write(&self, to: &mut Vec<u32>) {
+        to.push(*self as u32);
+    }
+
+    fn visit_floats(&mut self, _: &mut dyn FnMut(&mut f32)) {}
+}
+
+impl Words for bool {
+    const COUNT: usize = 1;
+
+    fn read(from: &mut &[u32]) -> bool {
+        match u32::read(from) {
+            0 => false,
+            1 => true,
+            _ => panic!("the word is no switch"),
+        }
+    }
+
+    fn write(&self, to: &mut Vec<u32>) {
+        to.push(u32::from(*self));
+    }
+
+    fn visit_floats(&mut self, _: &mut dyn FnMut(&mut f32)) {}
+}
+
+/// Makes a struct the words of its fields, in the order given. Fields that are left out are read
+/// from the rest, if one is given, and not written.
 macro_rules! record {
-    ($name:ident { $($field:ident: $type:ty),+ }) => {
+    ($name:ident { $($field:ident: $type:ty),+ $(, ..$rest:expr)? }) => {
         impl Words for $name {
             const COUNT: usize = 0 $(+ <$type as Words>::COUNT)+;
 
             fn read(from: &mut &[u32]) -> $name {
-                $name { $($field: <$type as Words>::read(from)),+ }
+                $name { $($field: <$type as Words>::read(from)),+ $(, ..$rest)? }
             }
 
             fn write(&self, to: &mut Vec<u32>) {
                 $(self.$field.write(to);)+
             }
+
+            fn visit_floats(&mut self, visit: &mut dyn FnMut(&mut f32)) {
+                $(self.$field.visit_floats(visit);)+
+            }
         }
     };
 }
+pub(crate) use record;
 
 record!(Vec2 { x: f32, y: f32 });
 record!(Vec3 {

@@ -4,4 +4,4 @@ use Rattle.constraint.proofs.angular.upper_limit_row.Tie as tie
 
 pub upper-limit-row-spec : {M : Type 1} → statement M
 unfolding upperLimitRow
-upper-limit-row-spec = tie.close (tie.spec (λ c κs. tt) (λ c κs. tt) (λ c κs. tt) (λ c κs. tt) (λ c κs. tt) (λ c. rw (← (c .before .before .before .before .sub .ensures), ← (c .before .before .before .dot .ensures), ← (c .before .before .soft-impulse .ensures), ← (c .before .max-float .ensures), ← (c .apply-axial-flipped .ensures))))
+upper-limit-row-spec = tie.close (tie.spec (λ c κs. tt) (λ c κs. tt) (λ c κs. tt) (λ c κs. tt) (λ c. rw (← (c .before .before .before .sub .ensures), ← (c .before .before .dot .ensures), ← (c .before .limit-impulse .ensures), ← (c .apply-axial-flipped .ensures))))

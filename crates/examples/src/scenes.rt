@@ -1,0 +1,159 @@
+// The joints, bodies and states of examples 13 to 16: rotations, frames and deltas identity, all
+// that an example does not name zero, and switches off.
+use math_functions::types::MAT3_ZERO;
+use math_functions::types::Matrix3;
+use math_functions::types::QUAT_IDENTITY;
+use math_functions::types::Transform;
+use math_functions::types::VEC2_ZERO;
+use math_functions::types::VEC3_ZERO;
+use math_functions::types::Vec3;
+use records::AWAKE_SET;
+use records::body::BodyRecord;
+use records::body::BodyState;
+use records::body::DYNAMIC_FLAG;
+use records::joint::JointBase;
+use records::joint::JointType;
+use records::joint::RevoluteJoint;
+use records::joint::WeldJoint;
+use solver::Softness;
+use solver::StepContext;
+
+pub fn identity_frame() -> Transform {
+    Transform {
+        p: VEC3_ZERO,
+        q: QUAT_IDENTITY,
+    }
+}
+
+pub fn no_softness() -> Softness {
+    Softness {
+        bias_rate: 0.0,
+        mass_scale: 0.0,
+        impulse_scale: 0.0,
+    }
+}
+
+pub fn step(h: f32) -> StepContext {
+    StepContext {
+        dt: 0.0,
+        inv_dt: 0.0,
+        h,
+        inv_h: 0.0,
+        sub_step_count: 0,
+        contact_softness: no_softness(),
+        static_softness: no_softness(),
+        restitution_threshold: 0.0,
+        max_linear_velocity: 0.0,
+        contact_speed: 0.0,
+        enable_warm_starting: false,
+    }
+}
+
+pub fn joint_base(type_: JointType) -> JointBase {
+    JointBase {
+        joint_id: 0,
+        body_id_a: 0,
+        body_id_b: 0,
+        type_,
+        local_frame_a: identity_frame(),
+        local_frame_b: identity_frame(),
+        inv_mass_a: 0.0,
+        inv_mass_b: 0.0,
+        inv_i_a: MAT3_ZERO,
+        inv_i_b: MAT3_ZERO,
+        constraint_hertz: 0.0,
+        constraint_damping_ratio: 0.0,
+        constraint_softness: no_softness(),
+        force_threshold: 0.0,
+        torque_threshold: 0.0,
+        fixed_rotation: false,
+    }
+}
+
+pub fn weld_joint() -> WeldJoint {
+    WeldJoint {
+        linear_hertz: 0.0,
+        linear_damping_ratio: 0.0,
+        angular_hertz: 0.0,
+        angular_damping_ratio: 0.0,
+        linear_spring: no_softness(),
+        angular_spring: no_softness(),
+        linear_impulse: VEC3_ZERO,
+        angular_impulse: VEC3_ZERO,
+        index_a: 0,
+        index_b: 0,
+        frame_a: identity_frame(),
+        frame_b: identity_frame(),
+        delta_center: VEC3_ZERO,
+        angular_mass: MAT3_ZERO,
+    }
+}
+
+pub fn revolute_joint(max_motor_torque: f32, motor_speed: f32) -> RevoluteJoint {
+    RevoluteJoint {
+        linear_impulse: VEC3_ZERO,
+        perp_impulse: VEC2_ZERO,
+        spring_impulse: 0.0,
+        motor_impulse: 0.0,
+        lower_impulse: 0.0,
+        upper_impulse: 0.0,
+        hertz: 0.0,
+        damping_ratio: 0.0,
+        max_motor_torque,
+        motor_speed,
+        target_angle: 0.0,
+        lower_angle: 0.0,
+        upper_angle: 0.0,
+        index_a: 0,
+        index_b: 0,
+        frame_a: identity_frame(),
+        frame_b: identity_frame(),
+        rotation_axis_z: VEC3_ZERO,
+        perp_axis_x: VEC3_ZERO,
+        perp_axis_y: VEC3_ZERO,
+        delta_center: VEC3_ZERO,
+        delta_angle: 0.0,
+        axial_mass: 0.0,
+        spring_softness: no_softness(),
+        enable_spring: false,
+        enable_motor: true,
+        enable_limit: false,
+    }
+}
+
+// A body at an index of the awake set.
+pub fn body(local_index: i32, inv_mass: f32, inv_inertia_world: Matrix3) -> BodyRecord {
+    BodyRecord {
+        set_index: AWAKE_SET,
+        local_index,
+        inv_mass,
+        inv_inertia_world,
+        rotation: QUAT_IDENTITY,
+        center: VEC3_ZERO,
+        local_center: VEC3_ZERO,
+    }
+}
+
+// A body of another set, which gets the index -1.
+pub fn fixed_body() -> BodyRecord {
+    BodyRecord {
+        set_index: 0,
+        local_index: 0,
+        inv_mass: 0.0,
+        inv_inertia_world: MAT3_ZERO,
+        rotation: QUAT_IDENTITY,
+        center: VEC3_ZERO,
+        local_center: VEC3_ZERO,
+    }
+}
+
+// A dynamic body that moves along x.
+pub fn moving(x: f32) -> BodyState {
+    BodyState {
+        linear_velocity: Vec3 { x, y: 0.0, z: 0.0 },
+        angular_velocity: VEC3_ZERO,
+        delta_position: VEC3_ZERO,
+        delta_rotation: QUAT_IDENTITY,
+        flags: DYNAMIC_FLAG,
+    }
+}

@@ -1,0 +1,19 @@
+-- `solve_revolute_joint` equals its definition: a joint of another case by the fact that it is refused. Assumes nothing.
+use borrow.Author.Needs.{needs}
+use Rattle.revolute.specs.Revolute.{solveRevoluteJoint, solveRevoluteUnion}
+use Rattle.revolute.specs.Facts.{solve-refused}
+use Rattle.revolute.proofs.Cases.{not-revolute}
+use Rattle.revolute.proofs.solve_revolute_joint.Statement.{statement}
+use Rattle.revolute.proofs.solve_revolute_joint.Tie as tie
+
+returns : tie.Need-returns
+returns c =
+    let args = c .before .before .args in
+    rw (solve-refused (args .joint) (args .context) (args .state-a) (args .state-b) (args .use-bias) (not-revolute (args .joint .«union_») (c .before .match .keys2)), ← (c .velocities-of .ensures))
+
+returns-2 : tie.Need-returns-2
+unfolding solveRevoluteJoint solveRevoluteUnion
+returns-2 c = rw (c .before .before .before .before .before .u .given .1, ← (c .before .before .solve-revolute .ensures))
+
+pub solve-revolute-joint-spec : {M : Type 1} → statement M
+solve-revolute-joint-spec = tie.close (tie.spec (λ c. search needs) (λ c κs. tt) returns (λ c κs. tt) returns-2)

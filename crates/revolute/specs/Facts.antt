@@ -1,0 +1,256 @@
+-- What holds of the revolute joint's stages, for all inputs: the limits' impulses, what a stage changes, what it reads, and when it refuses. Assumes nothing.
+use Prim.Native.Nat.{ℕ}
+use mathlib.Core.Path.{_≡_, refl, ap}
+use mathlib.Core.Bool.{Bool, true, false, cond}
+use lib.Ieee as Ieee
+use lib.Ieee.{Float, fin}
+use lib.IntN.{ℤ, negsuc}
+use Rattle.math_functions.specs.declared.types.Vec3.{Vec3}
+use Rattle.solver.specs.declared.StepContext.{StepContext}
+use Rattle.records.specs.declared.body.BodyState.{BodyState}
+use Rattle.records.specs.Body.{withFlags, withDeltaPosition}
+use Rattle.records.specs.declared.body.BodyRecord.{BodyRecord}
+use Rattle.records.specs.declared.joint.RevoluteJoint.{RevoluteJoint}
+use Rattle.records.specs.declared.joint.JointBase.{JointBase}
+use Rattle.records.specs.declared.joint.JointSim.{JointSim}
+use Rattle.records.specs.declared.joint.JointUnion.{JointUnion}
+use Rattle.records.specs.declared.joint.JointUnion.the-variants.{Revolute, Spherical, Weld, Other}
+use Rattle.constraint.specs.Velocity.{velocitiesOf}
+use Rattle.constraint.specs.Angular.{isWorked}
+use Rattle.constraint.specs.Answer.{notPrepared, notWarmStarted, notSolved}
+use Rattle.constraint.specs.Facts.{NonNegative, twist-lower-nonNegative, twist-upper-nonNegative}
+use Rattle.revolute.specs.Revolute.{half, withImpulses, jointRotation, solveSpring, solveMotor, solveLimits, solvePerp, solvePoint, revoluteSolved, solveRevolute, warmAngularImpulse, warmStartRevolute}
+use Rattle.revolute.specs.Revolute.{isRevolute, prepareRevoluteUnion, prepareRevoluteJoint, warmStartRevoluteUnion, warmStartRevoluteJoint, solveRevoluteUnion, solveRevoluteJoint}
+
+-- 0.5 is 2 ^ -1
+pub half-is : half ≡ fin false 1 (negsuc 0)
+unfolding Ieee.ofBits
+half-is = refl
+
+-- ---- the stages by value
+
+-- a switch that is on, in a joint whose rotation is not fixed
+worked : {enabled fixedRotation : Bool} → enabled ≡ true → fixedRotation ≡ false → isWorked enabled fixedRotation ≡ true
+unfolding isWorked
+worked on free = rw (on, free)
+
+-- what is said of the limits: `next` is the joint `j` after a solve
+pub record LimitsNonNegative (j next : RevoluteJoint) : Type 0 where
+  pub lower : j .«enable_limit» ≡ true → NonNegative (next .«lower_impulse»)
+  pub upper : j .«enable_limit» ≡ true → NonNegative (next .«upper_impulse»)
+
+module _ (base : JointBase) (j : RevoluteJoint) (h invH : Float) (stateA stateB : BodyState) (useBias : Bool) where
+  -- while the rotation is not fixed an enabled limit never pulls, whatever its impulse was before
+  pub solve-lower-nonNegative :
+      base .«fixed_rotation» ≡ false →
+      j .«enable_limit» ≡ true →
+      NonNegative (solveRevolute base j h invH stateA stateB useBias .joint .«lower_impulse»)
+  unfolding solveRevolute solveLimits
+  solve-lower-nonNegative free on = rw (worked on free) (twist-lower-nonNegative _ _ _ _ _ _ _ _ _ _ _ _)
+
+  pub solve-upper-nonNegative :
+      base .«fixed_rotation» ≡ false →
+      j .«enable_limit» ≡ true →
+      NonNegative (solveRevolute base j h invH stateA stateB useBias .joint .«upper_impulse»)
+  unfolding solveRevolute solveLimits
+  solve-upper-nonNegative free on = rw (worked on free) (twist-upper-nonNegative _ _ _ _ _ _ _ _ _ _ _ _)
+
+  pub solve-limits : base .«fixed_rotation» ≡ false → LimitsNonNegative j (solveRevolute base j h invH stateA stateB useBias .joint)
+  solve-limits free = record { lower = solve-lower-nonNegative free; upper = solve-upper-nonNegative free }
+
+  -- no field of the joint changes but linear_impulse, perp_impulse, spring_impulse, motor_impulse, lower_impulse, upper_impulse, perp_axis_x and perp_axis_y
+  pub solve-keeps :
+      let s = solveRevolute base j h invH stateA stateB useBias .joint in
+      s ≡ withImpulses j (s .«linear_impulse») (s .«perp_impulse») (s .«spring_impulse») (s .«motor_impulse») (s .«lower_impulse») (s .«upper_impulse») (s .«perp_axis_x») (s .«perp_axis_y»)
+  unfolding solveRevolute
+  solve-keeps = refl
+
+-- the joint with other indices, and all else as it was
+abbrev pub withIndices : RevoluteJoint → ℤ → ℤ → RevoluteJoint
+withIndices j indexA indexB =
+    record {
+      «linear_impulse» = j .«linear_impulse»;
+      «perp_impulse» = j .«perp_impulse»;
+      «spring_impulse» = j .«spring_impulse»;
+      «motor_impulse» = j .«motor_impulse»;
+      «lower_impulse» = j .«lower_impulse»;
+      «upper_impulse» = j .«upper_impulse»;
+      hertz = j .hertz;
+      «damping_ratio» = j .«damping_ratio»;
+      «max_motor_torque» = j .«max_motor_torque»;
+      «motor_speed» = j .«motor_speed»;
+      «target_angle» = j .«target_angle»;
+      «lower_angle» = j .«lower_angle»;
+      «upper_angle» = j .«upper_angle»;
+      «index_a» = indexA;
+      «index_b» = indexB;
+      «frame_a» = j .«frame_a»;
+      «frame_b» = j .«frame_b»;
+      «rotation_axis_z» = j .«rotation_axis_z»;
+      «perp_axis_x» = j .«perp_axis_x»;
+      «perp_axis_y» = j .«perp_axis_y»;
+      «delta_center» = j .«delta_center»;
+      «delta_angle» = j .«delta_angle»;
+      «axial_mass» = j .«axial_mass»;
+      «spring_softness» = j .«spring_softness»;
+      «enable_spring» = j .«enable_spring»;
+      «enable_motor» = j .«enable_motor»;
+      «enable_limit» = j .«enable_limit»;
+    }
+
+module _ (base : JointBase) (j : RevoluteJoint) (stateA stateB : BodyState) where
+  -- the indices are not read, and stay
+  pub solve-indices : (h invH : Float) (useBias : Bool) (x y : ℤ) →
+      let r = solveRevolute base j h invH stateA stateB useBias in
+      solveRevolute base (withIndices j x y) h invH stateA stateB useBias ≡ revoluteSolved (withIndices (r .joint) x y) (r .velocities)
+  unfolding solveRevolute jointRotation solveSpring solveMotor solveLimits solvePerp solvePoint
+  solve-indices h invH useBias x y = refl
+
+  pub warm-start-indices : (x y : ℤ) → warmStartRevolute base (withIndices j x y) stateA stateB ≡ warmStartRevolute base j stateA stateB
+  unfolding warmStartRevolute warmAngularImpulse
+  warm-start-indices x y = refl
+
+  -- of a state nothing is read but the velocities, the delta position and the delta rotation
+  pub solve-flags : (h invH : Float) (useBias : Bool) (f g : ℕ) →
+      solveRevolute base j h invH (withFlags stateA f) (withFlags stateB g) useBias ≡ solveRevolute base j h invH stateA stateB useBias
+  unfolding solveRevolute jointRotation solvePoint velocitiesOf
+  solve-flags h invH useBias f g = refl
+
+  pub warm-start-flags : (f g : ℕ) → warmStartRevolute base j (withFlags stateA f) (withFlags stateB g) ≡ warmStartRevolute base j stateA stateB
+  unfolding warmStartRevolute velocitiesOf
+  warm-start-flags f g = refl
+
+  -- a warm start does not read the delta position either
+  pub warm-start-delta-position : (p q : Vec3) → warmStartRevolute base j (withDeltaPosition stateA p) (withDeltaPosition stateB q) ≡ warmStartRevolute base j stateA stateB
+  unfolding warmStartRevolute velocitiesOf
+  warm-start-delta-position p q = refl
+
+-- ---- the stages over a joint of any kind
+
+-- of a context prepare reads h and enable_warm_starting, and a solve h and inv_h
+pub prepare-context : (sim : JointSim) (c d : StepContext) (bodyA bodyB : BodyRecord) →
+    c .h ≡ d .h →
+    c .«enable_warm_starting» ≡ d .«enable_warm_starting» →
+    prepareRevoluteJoint sim c bodyA bodyB ≡ prepareRevoluteJoint sim d bodyA bodyB
+unfolding prepareRevoluteJoint
+prepare-context sim c d bodyA bodyB same-h same-warm = rw (same-h, same-warm)
+
+pub solve-context : (sim : JointSim) (c d : StepContext) (stateA stateB : BodyState) (useBias : Bool) →
+    c .h ≡ d .h →
+    c .«inv_h» ≡ d .«inv_h» →
+    solveRevoluteJoint sim c stateA stateB useBias ≡ solveRevoluteJoint sim d stateA stateB useBias
+unfolding solveRevoluteJoint
+solve-context sim c d stateA stateB useBias same-h same-inv-h = rw (same-h, same-inv-h)
+
+module _ (sim : JointSim) (context : StepContext) (bodyA bodyB : BodyRecord) where
+  -- the number is 1 exactly where the case is another
+  pub prepare-number : prepareRevoluteJoint sim context bodyA bodyB .number ≡ cond (isRevolute (sim .«union_»)) 0 1
+  unfolding prepareRevoluteJoint prepareRevoluteUnion
+  prepare-number = go (sim .«union_»)
+    where
+      go : (u : JointUnion) → prepareRevoluteUnion u sim (context .h) (context .«enable_warm_starting») bodyA bodyB .number ≡ cond (isRevolute u) 0 1
+      go (Revolute j) = refl
+      go (Spherical j) = refl
+      go (Weld j) = refl
+      go Other = refl
+
+  -- and then the joint is as it was
+  pub prepare-refused : isRevolute (sim .«union_») ≡ false → prepareRevoluteJoint sim context bodyA bodyB ≡ notPrepared sim
+  unfolding prepareRevoluteJoint prepareRevoluteUnion
+  prepare-refused = go (sim .«union_»)
+    where
+      go : (u : JointUnion) → isRevolute u ≡ false → prepareRevoluteUnion u sim (context .h) (context .«enable_warm_starting») bodyA bodyB ≡ notPrepared sim
+      go (Revolute j) e = cc
+      go (Spherical j) e = refl
+      go (Weld j) e = refl
+      go Other e = refl
+
+  -- a revolute joint stays one, and no other becomes one
+  pub prepare-case : isRevolute (prepareRevoluteJoint sim context bodyA bodyB .joint .«union_») ≡ isRevolute (sim .«union_»)
+  unfolding prepareRevoluteJoint prepareRevoluteUnion
+  prepare-case = go (sim .«union_») refl
+    where
+      go : (u : JointUnion) → sim .«union_» ≡ u → isRevolute (prepareRevoluteUnion u sim (context .h) (context .«enable_warm_starting») bodyA bodyB .joint .«union_») ≡ isRevolute u
+      go (Revolute j) e = refl
+      go (Spherical j) e = ap isRevolute e
+      go (Weld j) e = ap isRevolute e
+      go Other e = ap isRevolute e
+
+module _ (sim : JointSim) (stateA stateB : BodyState) where
+  -- a warm start changes no field of the joint
+  pub warm-start-joint : warmStartRevoluteJoint sim stateA stateB .joint ≡ sim
+  unfolding warmStartRevoluteJoint warmStartRevoluteUnion
+  warm-start-joint = go (sim .«union_»)
+    where
+      go : (u : JointUnion) → warmStartRevoluteUnion u sim stateA stateB .joint ≡ sim
+      go (Revolute j) = refl
+      go (Spherical j) = refl
+      go (Weld j) = refl
+      go Other = refl
+
+  -- the number is 1 exactly where the case is another
+  pub warm-start-number : warmStartRevoluteJoint sim stateA stateB .number ≡ cond (isRevolute (sim .«union_»)) 0 1
+  unfolding warmStartRevoluteJoint warmStartRevoluteUnion
+  warm-start-number = go (sim .«union_»)
+    where
+      go : (u : JointUnion) → warmStartRevoluteUnion u sim stateA stateB .number ≡ cond (isRevolute u) 0 1
+      go (Revolute j) = refl
+      go (Spherical j) = refl
+      go (Weld j) = refl
+      go Other = refl
+
+  -- and then joint and velocities are as they were
+  pub warm-start-refused : isRevolute (sim .«union_») ≡ false → warmStartRevoluteJoint sim stateA stateB ≡ notWarmStarted sim stateA stateB
+  unfolding warmStartRevoluteJoint warmStartRevoluteUnion
+  warm-start-refused = go (sim .«union_»)
+    where
+      go : (u : JointUnion) → isRevolute u ≡ false → warmStartRevoluteUnion u sim stateA stateB ≡ notWarmStarted sim stateA stateB
+      go (Revolute j) e = cc
+      go (Spherical j) e = refl
+      go (Weld j) e = refl
+      go Other e = refl
+
+module _ (sim : JointSim) (context : StepContext) (stateA stateB : BodyState) (useBias : Bool) where
+  -- a solve changes nothing of the joint but the revolute record
+  pub solve-base : solveRevoluteJoint sim context stateA stateB useBias .joint .base ≡ sim .base
+  unfolding solveRevoluteJoint solveRevoluteUnion
+  solve-base = go (sim .«union_»)
+    where
+      go : (u : JointUnion) → solveRevoluteUnion u sim (context .h) (context .«inv_h») stateA stateB useBias .joint .base ≡ sim .base
+      go (Revolute j) = refl
+      go (Spherical j) = refl
+      go (Weld j) = refl
+      go Other = refl
+
+  -- a revolute joint stays one, and no other becomes one
+  pub solve-case : isRevolute (solveRevoluteJoint sim context stateA stateB useBias .joint .«union_») ≡ isRevolute (sim .«union_»)
+  unfolding solveRevoluteJoint solveRevoluteUnion
+  solve-case = go (sim .«union_») refl
+    where
+      go : (u : JointUnion) → sim .«union_» ≡ u → isRevolute (solveRevoluteUnion u sim (context .h) (context .«inv_h») stateA stateB useBias .joint .«union_») ≡ isRevolute u
+      go (Revolute j) e = refl
+      go (Spherical j) e = ap isRevolute e
+      go (Weld j) e = ap isRevolute e
+      go Other e = ap isRevolute e
+
+  -- the number is 1 exactly where the case is another
+  pub solve-number : solveRevoluteJoint sim context stateA stateB useBias .number ≡ cond (isRevolute (sim .«union_»)) 0 1
+  unfolding solveRevoluteJoint solveRevoluteUnion
+  solve-number = go (sim .«union_»)
+    where
+      go : (u : JointUnion) → solveRevoluteUnion u sim (context .h) (context .«inv_h») stateA stateB useBias .number ≡ cond (isRevolute u) 0 1
+      go (Revolute j) = refl
+      go (Spherical j) = refl
+      go (Weld j) = refl
+      go Other = refl
+
+  -- and then joint and velocities are as they were
+  pub solve-refused : isRevolute (sim .«union_») ≡ false → solveRevoluteJoint sim context stateA stateB useBias ≡ notSolved sim stateA stateB
+  unfolding solveRevoluteJoint solveRevoluteUnion
+  solve-refused = go (sim .«union_»)
+    where
+      go : (u : JointUnion) → isRevolute u ≡ false → solveRevoluteUnion u sim (context .h) (context .«inv_h») stateA stateB useBias ≡ notSolved sim stateA stateB
+      go (Revolute j) e = cc
+      go (Spherical j) e = refl
+      go (Weld j) e = refl
+      go Other e = refl

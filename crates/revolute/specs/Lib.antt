@@ -1,0 +1,2 @@
+pub mod Revolute
+pub mod Facts

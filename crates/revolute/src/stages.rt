@@ -1,0 +1,354 @@
+// The stages of the revolute joint by value: prepare, warm start, and solve, which works the rows.
+ghost use mathlib.Core.Path.{_≡_};
+ghost use Rattle.revolute.specs.Revolute as D;
+use crate::rows::PerpRow;
+use crate::rows::motor_row;
+use crate::rows::perp_angular_impulse;
+use crate::rows::perp_axis;
+use crate::rows::perp_row;
+use crate::rows::point_row;
+use crate::rows::spring_row;
+use constraint::angular::AxialRow;
+use constraint::angular::LimitRows;
+use constraint::angular::Row3;
+use constraint::angular::is_worked;
+use constraint::angular::twist_limit_rows;
+use constraint::prepare::awake_index;
+use constraint::prepare::axial_mass;
+use constraint::prepare::prepare_base;
+use constraint::prepare::prepare_frame;
+use constraint::rotation::RelativeRotation;
+use constraint::rotation::flipped_relative_rotation;
+use constraint::velocity::InvMasses;
+use constraint::velocity::Velocities;
+use constraint::velocity::apply_warm;
+use constraint::velocity::inv_masses_of;
+use constraint::velocity::velocities_of;
+use math_functions::matrix::add_mm;
+use math_functions::quat::inv_mul_quat;
+use math_functions::quat::rotate_vector;
+use math_functions::transform::sub_pos;
+use math_functions::types::Quat;
+use math_functions::types::VEC2_ZERO;
+use math_functions::types::VEC3_AXIS_X;
+use math_functions::types::VEC3_AXIS_Y;
+use math_functions::types::VEC3_AXIS_Z;
+use math_functions::types::VEC3_ZERO;
+use math_functions::types::Vec2;
+use math_functions::types::Vec3;
+use math_functions::vector::mul_add;
+use records::body::BodyRecord;
+use records::body::BodyState;
+use records::joint::JointBase;
+use records::joint::RevoluteJoint;
+use solver::Softness;
+use solver::make_soft;
+
+// What prepare leaves.
+pub struct RevolutePrepared {
+    pub base: JointBase,
+    pub joint: RevoluteJoint,
+}
+
+// What a solve leaves.
+pub struct RevoluteSolved {
+    pub joint: RevoluteJoint,
+    pub velocities: Velocities,
+}
+
+// The joint with other impulses and other perpendicular axes.
+pub fn with_impulses(
+    joint: RevoluteJoint,
+    linear_impulse: Vec3,
+    perp_impulse: Vec2,
+    spring_impulse: f32,
+    motor_impulse: f32,
+    lower_impulse: f32,
+    upper_impulse: f32,
+    perp_axis_x: Vec3,
+    perp_axis_y: Vec3,
+) -> RevoluteJoint
+    ensures { λ r. ⌜ r ≡ D.withImpulses joint «linear_impulse» «perp_impulse» «spring_impulse» «motor_impulse» «lower_impulse» «upper_impulse» «perp_axis_x» «perp_axis_y» ⌝ }
+{
+    let mut out = joint;
+    out.linear_impulse = linear_impulse;
+    out.perp_impulse = perp_impulse;
+    out.spring_impulse = spring_impulse;
+    out.motor_impulse = motor_impulse;
+    out.lower_impulse = lower_impulse;
+    out.upper_impulse = upper_impulse;
+    out.perp_axis_x = perp_axis_x;
+    out.perp_axis_y = perp_axis_y;
+    out
+}
+
+// The impulses stay only for a warm start.
+pub fn keep_impulses(joint: RevoluteJoint, enable_warm_starting: bool) -> RevoluteJoint
+    ensures { λ r. ⌜ r ≡ D.keepImpulses joint «enable_warm_starting» ⌝ }
+{
+    if !enable_warm_starting {
+        let mut out = joint;
+        let linear_impulse = VEC3_ZERO;
+        let perp_impulse = VEC2_ZERO;
+        out.linear_impulse = linear_impulse;
+        out.perp_impulse = perp_impulse;
+        out.motor_impulse = 0.0;
+        out.spring_impulse = 0.0;
+        out.lower_impulse = 0.0;
+        out.upper_impulse = 0.0;
+        return out;
+    }
+    joint
+}
+
+// The masses, the frames, the rotation axis and the perpendicular axes at the start of a step.
+pub fn prepare_revolute(
+    base: JointBase,
+    joint: RevoluteJoint,
+    h: f32,
+    enable_warm_starting: bool,
+    body_a: BodyRecord,
+    body_b: BodyRecord,
+) -> RevolutePrepared
+    ensures { λ r. ⌜ r ≡ D.prepareRevolute base joint h «enable_warm_starting» «body_a» «body_b» ⌝ }
+{
+    let inv_inertia_sum = add_mm(body_a.inv_inertia_world, body_b.inv_inertia_world);
+    let frame_a = prepare_frame(body_a, base.local_frame_a);
+    let frame_b = prepare_frame(body_b, base.local_frame_b);
+
+    // Rotation axis is the z-axis of body A.
+    let rotation_axis_z = rotate_vector(frame_a.q, VEC3_AXIS_Z);
+    let rel_q = inv_mul_quat(frame_a.q, frame_b.q);
+    let mut out = joint;
+    out.index_a = awake_index(body_a);
+    out.index_b = awake_index(body_b);
+    out.frame_a = frame_a;
+    out.frame_b = frame_b;
+    out.delta_center = sub_pos(body_b.center, body_a.center);
+    out.axial_mass = axial_mass(inv_inertia_sum, rotation_axis_z);
+    out.rotation_axis_z = rotation_axis_z;
+
+    // These are needed for warm starting
+    out.perp_axis_x = perp_axis(frame_a.q, rel_q, VEC3_AXIS_X);
+    out.perp_axis_y = perp_axis(frame_a.q, rel_q, VEC3_AXIS_Y);
+    out.spring_softness = make_soft(joint.hertz, joint.damping_ratio, h);
+    let base = prepare_base(base, body_a, body_b);
+    let joint = keep_impulses(out, enable_warm_starting);
+    RevolutePrepared { base, joint }
+}
+
+// The angular impulse of all rows but the point row.
+pub fn warm_angular_impulse(joint: RevoluteJoint) -> Vec3
+    ensures { λ r. ⌜ r ≡ D.warmAngularImpulse joint ⌝ }
+{
+    let axial_impulse = joint.spring_impulse + joint.motor_impulse + joint.lower_impulse
+        - joint.upper_impulse;
+    let angular_impulse = perp_angular_impulse(
+        joint.perp_impulse,
+        joint.perp_axis_x,
+        joint.perp_axis_y,
+    );
+    mul_add(angular_impulse, axial_impulse, joint.rotation_axis_z)
+}
+
+// The velocities after the impulses that the joint has kept.
+pub fn warm_start_revolute(
+    base: JointBase,
+    joint: RevoluteJoint,
+    state_a: BodyState,
+    state_b: BodyState,
+) -> Velocities
+    ensures { λ r. ⌜ r ≡ D.warmStartRevolute base joint «state_a» «state_b» ⌝ }
+{
+    let m = inv_masses_of(base);
+    let v = velocities_of(state_a, state_b);
+    let r_a = rotate_vector(state_a.delta_rotation, joint.frame_a.p);
+    let r_b = rotate_vector(state_b.delta_rotation, joint.frame_b.p);
+    let angular_impulse = warm_angular_impulse(joint);
+    apply_warm(m, r_a, r_b, joint.linear_impulse, angular_impulse, v)
+}
+
+// Where frame B stands relative to frame A.
+pub fn joint_rotation(
+    joint: RevoluteJoint,
+    state_a: BodyState,
+    state_b: BodyState,
+) -> RelativeRotation
+    ensures { λ r. ⌜ r ≡ D.jointRotation joint «state_a» «state_b» ⌝ }
+{
+    flipped_relative_rotation(
+        state_a.delta_rotation,
+        joint.frame_a.q,
+        state_b.delta_rotation,
+        joint.frame_b.q,
+    )
+}
+
+// The spring row at the fields of the joint.
+pub fn solve_spring(
+    fixed_rotation: bool,
+    joint: RevoluteJoint,
+    rel_q: Quat,
+    m: InvMasses,
+    v: Velocities,
+) -> AxialRow
+    ensures { λ r. ⌜ r ≡ D.solveSpring «fixed_rotation» joint «rel_q» m v ⌝ }
+{
+    spring_row(
+        is_worked(joint.enable_spring, fixed_rotation),
+        rel_q,
+        joint.target_angle,
+        joint.spring_softness,
+        joint.axial_mass,
+        joint.rotation_axis_z,
+        joint.spring_impulse,
+        m,
+        v,
+    )
+}
+
+// The motor row at the fields of the joint.
+pub fn solve_motor(
+    fixed_rotation: bool,
+    joint: RevoluteJoint,
+    h: f32,
+    m: InvMasses,
+    v: Velocities,
+) -> AxialRow
+    ensures { λ r. ⌜ r ≡ D.solveMotor «fixed_rotation» joint h m v ⌝ }
+{
+    motor_row(
+        is_worked(joint.enable_motor, fixed_rotation),
+        joint.motor_speed,
+        joint.max_motor_torque,
+        h,
+        joint.axial_mass,
+        joint.rotation_axis_z,
+        joint.motor_impulse,
+        m,
+        v,
+    )
+}
+
+// The two limit rows at the fields of the joint.
+pub fn solve_limits(
+    fixed_rotation: bool,
+    softness: Softness,
+    joint: RevoluteJoint,
+    rel_q: Quat,
+    inv_h: f32,
+    use_bias: bool,
+    m: InvMasses,
+    v: Velocities,
+) -> LimitRows
+    ensures { λ r. ⌜ r ≡ D.solveLimits «fixed_rotation» softness joint «rel_q» «inv_h» «use_bias» m v ⌝ }
+{
+    twist_limit_rows(
+        is_worked(joint.enable_limit, fixed_rotation),
+        rel_q,
+        joint.lower_angle,
+        joint.upper_angle,
+        softness,
+        inv_h,
+        use_bias,
+        joint.axial_mass,
+        joint.rotation_axis_z,
+        joint.lower_impulse,
+        joint.upper_impulse,
+        m,
+        v,
+    )
+}
+
+// The perpendicular row at the fields of the joint. It has no switch.
+pub fn solve_perp(
+    fixed_rotation: bool,
+    softness: Softness,
+    joint: RevoluteJoint,
+    rotation: RelativeRotation,
+    use_bias: bool,
+    m: InvMasses,
+    v: Velocities,
+) -> PerpRow
+    ensures { λ r. ⌜ r ≡ D.solvePerp «fixed_rotation» softness joint rotation «use_bias» m v ⌝ }
+{
+    perp_row(
+        !fixed_rotation,
+        rotation,
+        softness,
+        use_bias,
+        joint.perp_axis_x,
+        joint.perp_axis_y,
+        joint.perp_impulse,
+        m,
+        v,
+    )
+}
+
+// The point row at the fields of the joint and the states.
+pub fn solve_point(
+    softness: Softness,
+    joint: RevoluteJoint,
+    state_a: BodyState,
+    state_b: BodyState,
+    use_bias: bool,
+    m: InvMasses,
+    v: Velocities,
+) -> Row3
+    ensures { λ r. ⌜ r ≡ D.solvePoint softness joint «state_a» «state_b» «use_bias» m v ⌝ }
+{
+    let r_a = rotate_vector(state_a.delta_rotation, joint.frame_a.p);
+    let r_b = rotate_vector(state_b.delta_rotation, joint.frame_b.p);
+    point_row(
+        use_bias,
+        softness,
+        r_a,
+        r_b,
+        state_a.delta_position,
+        state_b.delta_position,
+        joint.delta_center,
+        joint.linear_impulse,
+        m,
+        v,
+    )
+}
+
+// The rows in order, each on the velocities that the row before it left.
+pub fn solve_revolute(
+    base: JointBase,
+    joint: RevoluteJoint,
+    h: f32,
+    inv_h: f32,
+    state_a: BodyState,
+    state_b: BodyState,
+    use_bias: bool,
+) -> RevoluteSolved
+    ensures { λ r. ⌜ r ≡ D.solveRevolute base joint h «inv_h» «state_a» «state_b» «use_bias» ⌝ }
+{
+    let fixed = base.fixed_rotation;
+    let softness = base.constraint_softness;
+    let m = inv_masses_of(base);
+    let v = velocities_of(state_a, state_b);
+    let turn = joint_rotation(joint, state_a, state_b);
+    let spring = solve_spring(fixed, joint, turn.rel_q, m, v);
+    let motor = solve_motor(fixed, joint, h, m, spring.velocities);
+    let v = motor.velocities;
+    let limits = solve_limits(fixed, softness, joint, turn.rel_q, inv_h, use_bias, m, v);
+    let v = limits.velocities;
+    let perp = solve_perp(fixed, softness, joint, turn, use_bias, m, v);
+    let v = perp.velocities;
+    let point = solve_point(softness, joint, state_a, state_b, use_bias, m, v);
+    let joint = with_impulses(
+        joint,
+        point.impulse,
+        perp.perp_impulse,
+        spring.impulse,
+        motor.impulse,
+        limits.lower_impulse,
+        limits.upper_impulse,
+        perp.perp_axis_x,
+        perp.perp_axis_y,
+    );
+    let velocities = point.velocities;
+    RevoluteSolved { joint, velocities }
+}

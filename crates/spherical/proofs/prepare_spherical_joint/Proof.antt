@@ -1,0 +1,19 @@
+-- `prepare_spherical_joint` equals its definition. Assumes nothing.
+use borrow.Author.Needs.{needs}
+use Rattle.spherical.specs.Spherical.{prepareSphericalUnion, prepareSphericalJoint}
+use Rattle.spherical.specs.Facts.{prepare-refused}
+use Rattle.spherical.proofs.OtherCase.{other-case}
+use Rattle.spherical.proofs.prepare_spherical_joint.Statement.{statement}
+use Rattle.spherical.proofs.prepare_spherical_joint.Tie as tie
+
+returns : tie.Need-returns
+returns c =
+    let a = c .before .args in
+    rw (prepare-refused (a .joint) (a .context) (a .body-a) (a .body-b) (other-case (a .joint .«union_») (c .match .keys2)))
+
+returns-2 : tie.Need-returns-2
+unfolding prepareSphericalJoint prepareSphericalUnion
+returns-2 c = rw (c .before .before .before .u .given .1, ← (c .before .prepare-spherical .ensures), ← (c .spherical-sim .ensures))
+
+pub prepare-spherical-joint-spec : {M : Type 1} → statement M
+prepare-spherical-joint-spec = tie.close (tie.spec (λ c. search needs) returns (λ c κs. tt) (λ c κs. tt) returns-2)

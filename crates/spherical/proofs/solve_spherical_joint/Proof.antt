@@ -1,0 +1,19 @@
+-- `solve_spherical_joint` equals its definition. Assumes nothing.
+use borrow.Author.Needs.{needs}
+use Rattle.spherical.specs.Spherical.{solveSphericalUnion, solveSphericalJoint}
+use Rattle.spherical.specs.Facts.{solve-refused}
+use Rattle.spherical.proofs.OtherCase.{other-case}
+use Rattle.spherical.proofs.solve_spherical_joint.Statement.{statement}
+use Rattle.spherical.proofs.solve_spherical_joint.Tie as tie
+
+returns : tie.Need-returns
+returns c =
+    let a = c .before .before .args in
+    rw (solve-refused (a .joint) (a .context) (a .state-a) (a .state-b) (a .use-bias) (other-case (a .joint .«union_») (c .before .match .keys2)), ← (c .velocities-of .ensures))
+
+returns-2 : tie.Need-returns-2
+unfolding solveSphericalJoint solveSphericalUnion
+returns-2 c = rw (c .before .before .before .before .u .given .1, ← (c .before .before .solve-spherical .ensures), ← (c .spherical-sim .ensures))
+
+pub solve-spherical-joint-spec : {M : Type 1} → statement M
+solve-spherical-joint-spec = tie.close (tie.spec (λ c. search needs) (λ c κs. tt) returns (λ c κs. tt) (λ c κs. tt) returns-2)

@@ -1,0 +1,19 @@
+-- `warm_start_spherical_joint` equals its definition. Assumes nothing.
+use borrow.Author.Needs.{needs}
+use Rattle.spherical.specs.Spherical.{warmStartSphericalUnion, warmStartSphericalJoint}
+use Rattle.spherical.specs.Facts.{warm-start-refused}
+use Rattle.spherical.proofs.OtherCase.{other-case}
+use Rattle.spherical.proofs.warm_start_spherical_joint.Statement.{statement}
+use Rattle.spherical.proofs.warm_start_spherical_joint.Tie as tie
+
+returns : tie.Need-returns
+returns c =
+    let a = c .before .before .args in
+    rw (warm-start-refused (a .joint) (a .state-a) (a .state-b) (other-case (a .joint .«union_») (c .before .match .keys2)), ← (c .velocities-of .ensures))
+
+returns-2 : tie.Need-returns-2
+unfolding warmStartSphericalJoint warmStartSphericalUnion
+returns-2 c = rw (c .before .before .u .given .1, ← (c .warm-start-spherical .ensures))
+
+pub warm-start-spherical-joint-spec : {M : Type 1} → statement M
+warm-start-spherical-joint-spec = tie.close (tie.spec (λ c. search needs) (λ c κs. tt) returns (λ c κs. tt) returns-2)

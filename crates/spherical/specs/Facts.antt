@@ -1,0 +1,276 @@
+-- What holds of the spherical stages for all inputs: which impulses are never negative, which fields a solve may change, what a stage reads, and what a call on a
+-- joint leaves. Assumes nothing.
+use mathlib.Core.Path.{_≡_, refl}
+use mathlib.Core.Bool.{Bool, true, false, cond}
+use Prim.Native.Nat.{ℕ}
+use lib.Ieee.{Float}
+use lib.IntN.{ℤ}
+use Rattle.math_functions.specs.declared.types.Vec3.{Vec3}
+use Rattle.math_functions.specs.declared.types.Quat.{Quat}
+use Rattle.solver.specs.declared.Softness.{Softness}
+use Rattle.solver.specs.declared.StepContext.{StepContext}
+use Rattle.records.specs.declared.body.BodyRecord.{BodyRecord}
+use Rattle.records.specs.declared.body.BodyState.{BodyState}
+use Rattle.records.specs.Body.{withFlags, withDeltaPosition}
+use Rattle.records.specs.declared.joint.JointBase.{JointBase}
+use Rattle.records.specs.declared.joint.JointSim.{JointSim}
+use Rattle.records.specs.declared.joint.JointUnion.{JointUnion}
+use Rattle.records.specs.declared.joint.JointUnion.the-variants.{Revolute, Spherical, Weld, Other}
+use Rattle.records.specs.declared.joint.SphericalJoint.{SphericalJoint}
+use Rattle.constraint.specs.declared.velocity.Velocities.{Velocities}
+use Rattle.constraint.specs.declared.velocity.InvMasses.{InvMasses}
+use Rattle.constraint.specs.Velocity.{velocitiesOf}
+use Rattle.constraint.specs.Angular.{isWorked}
+use Rattle.constraint.specs.Answer.{jointSim, notPrepared, notWarmStarted, notSolved}
+use Rattle.constraint.specs.Facts.{NonNegative, upperLimitRow-nonNegative, twist-lower-nonNegative, twist-upper-nonNegative}
+use Rattle.spherical.specs.Spherical.{withImpulses, coneRow, sphericalSolved, warmStartSpherical, solveSpherical, prepareSphericalUnion, prepareSphericalJoint, warmStartSphericalUnion, warmStartSphericalJoint, solveSphericalUnion, solveSphericalJoint}
+
+-- ---- limits
+
+-- a row whose switch is on is worked where rotation is not fixed
+worked : (enabled fixedRotation : Bool) → enabled ≡ true → fixedRotation ≡ false → isWorked enabled fixedRotation ≡ true
+unfolding isWorked
+worked enabled fixedRotation on free = rw (on, free)
+
+pub coneRow-nonNegative : (relQ : Quat) (coneAngle : Float) (s : Softness) (invH : Float) (useBias : Bool) (mass : Float) (axis : Vec3) (old : Float) (m : InvMasses) (v : Velocities) → NonNegative (coneRow true relQ coneAngle s invH useBias mass axis old m v .impulse)
+unfolding coneRow
+coneRow-nonNegative relQ coneAngle s invH useBias mass axis old m v = upperLimitRow-nonNegative _ _ _ _ _ _
+
+-- what is said of the limits: `next` is the joint `j` after a solve
+pub record LimitsNonNegative (j next : SphericalJoint) : Type 0 where
+  pub lower-twist : j .«enable_twist_limit» ≡ true → NonNegative (next .«lower_twist_impulse»)
+  pub upper-twist : j .«enable_twist_limit» ≡ true → NonNegative (next .«upper_twist_impulse»)
+  pub swing : j .«enable_cone_limit» ≡ true → NonNegative (next .«swing_impulse»)
+
+module _ (base : JointBase) (j : SphericalJoint) (h invH : Float) (stateA stateB : BodyState) (useBias : Bool) where
+  -- After a solve with rotation not fixed each limit that is on has impulses that are zero or positive, and no NaN.
+  pub solve-lower-twist-nonNegative : base .«fixed_rotation» ≡ false → j .«enable_twist_limit» ≡ true → NonNegative (solveSpherical base j h invH stateA stateB useBias .joint .«lower_twist_impulse»)
+  unfolding solveSpherical
+  solve-lower-twist-nonNegative free on = rw (worked _ _ on free) (twist-lower-nonNegative _ _ _ _ _ _ _ _ _ _ _ _)
+
+  pub solve-upper-twist-nonNegative : base .«fixed_rotation» ≡ false → j .«enable_twist_limit» ≡ true → NonNegative (solveSpherical base j h invH stateA stateB useBias .joint .«upper_twist_impulse»)
+  unfolding solveSpherical
+  solve-upper-twist-nonNegative free on = rw (worked _ _ on free) (twist-upper-nonNegative _ _ _ _ _ _ _ _ _ _ _ _)
+
+  pub solve-swing-nonNegative : base .«fixed_rotation» ≡ false → j .«enable_cone_limit» ≡ true → NonNegative (solveSpherical base j h invH stateA stateB useBias .joint .«swing_impulse»)
+  unfolding solveSpherical
+  solve-swing-nonNegative free on = rw (worked _ _ on free) (coneRow-nonNegative _ _ _ _ _ _ _ _ _ _)
+
+  pub solve-limits : base .«fixed_rotation» ≡ false → LimitsNonNegative j (solveSpherical base j h invH stateA stateB useBias .joint)
+  solve-limits free =
+      record {
+        lower-twist = solve-lower-twist-nonNegative free;
+        upper-twist = solve-upper-twist-nonNegative free;
+        swing = solve-swing-nonNegative free;
+      }
+
+  -- ---- kept
+
+  -- A solve changes at most the six impulses: linear_impulse, spring_impulse, motor_impulse, lower_twist_impulse, upper_twist_impulse and swing_impulse.
+  pub solve-keeps :
+      let next = solveSpherical base j h invH stateA stateB useBias .joint in
+      next ≡ withImpulses j (next .«linear_impulse») (next .«spring_impulse») (next .«motor_impulse») (next .«lower_twist_impulse») (next .«upper_twist_impulse») (next .«swing_impulse»)
+  unfolding solveSpherical
+  solve-keeps = refl
+
+-- ---- indices
+
+abbrev pub withIndices : SphericalJoint → ℤ → ℤ → SphericalJoint
+withIndices j indexA indexB =
+    record {
+      «linear_impulse» = j .«linear_impulse»;
+      «spring_impulse» = j .«spring_impulse»;
+      «motor_impulse» = j .«motor_impulse»;
+      «lower_twist_impulse» = j .«lower_twist_impulse»;
+      «upper_twist_impulse» = j .«upper_twist_impulse»;
+      «swing_impulse» = j .«swing_impulse»;
+      hertz = j .hertz;
+      «damping_ratio» = j .«damping_ratio»;
+      «max_motor_torque» = j .«max_motor_torque»;
+      «motor_velocity» = j .«motor_velocity»;
+      «lower_twist_angle» = j .«lower_twist_angle»;
+      «upper_twist_angle» = j .«upper_twist_angle»;
+      «cone_angle» = j .«cone_angle»;
+      «target_rotation» = j .«target_rotation»;
+      «index_a» = indexA;
+      «index_b» = indexB;
+      «frame_a» = j .«frame_a»;
+      «frame_b» = j .«frame_b»;
+      «delta_center» = j .«delta_center»;
+      «swing_axis» = j .«swing_axis»;
+      «twist_jacobian» = j .«twist_jacobian»;
+      «rotation_mass» = j .«rotation_mass»;
+      «swing_mass» = j .«swing_mass»;
+      «twist_mass» = j .«twist_mass»;
+      «spring_softness» = j .«spring_softness»;
+      «enable_spring» = j .«enable_spring»;
+      «enable_motor» = j .«enable_motor»;
+      «enable_cone_limit» = j .«enable_cone_limit»;
+      «enable_twist_limit» = j .«enable_twist_limit»;
+    }
+
+-- with other indices in the joint a solve leaves the same, with those indices in it
+pub solve-indices : (base : JointBase) (j : SphericalJoint) (h invH : Float) (stateA stateB : BodyState) (useBias : Bool) (indexA indexB : ℤ) →
+    let next = solveSpherical base j h invH stateA stateB useBias in
+    solveSpherical base (withIndices j indexA indexB) h invH stateA stateB useBias ≡ sphericalSolved (withIndices (next .joint) indexA indexB) (next .velocities)
+unfolding solveSpherical
+solve-indices base j h invH stateA stateB useBias indexA indexB = refl
+
+pub warm-start-indices : (base : JointBase) (j : SphericalJoint) (stateA stateB : BodyState) (indexA indexB : ℤ) →
+    warmStartSpherical base (withIndices j indexA indexB) stateA stateB ≡ warmStartSpherical base j stateA stateB
+unfolding warmStartSpherical
+warm-start-indices base j stateA stateB indexA indexB = refl
+
+-- ---- what a stage reads of a state and of a context
+
+-- a solve reads the velocities, the delta position and the delta rotation of a state, and not its flags
+pub solve-flags : (base : JointBase) (j : SphericalJoint) (h invH : Float) (stateA stateB : BodyState) (useBias : Bool) (flagsA flagsB : ℕ) →
+    solveSpherical base j h invH (withFlags stateA flagsA) (withFlags stateB flagsB) useBias ≡ solveSpherical base j h invH stateA stateB useBias
+unfolding solveSpherical velocitiesOf
+solve-flags base j h invH stateA stateB useBias flagsA flagsB = refl
+
+-- a warm start reads neither the flags nor the delta position
+pub warm-start-flags : (base : JointBase) (j : SphericalJoint) (stateA stateB : BodyState) (flagsA flagsB : ℕ) →
+    warmStartSpherical base j (withFlags stateA flagsA) (withFlags stateB flagsB) ≡ warmStartSpherical base j stateA stateB
+unfolding warmStartSpherical velocitiesOf
+warm-start-flags base j stateA stateB flagsA flagsB = refl
+
+pub warm-start-delta-position : (base : JointBase) (j : SphericalJoint) (stateA stateB : BodyState) (pA pB : Vec3) →
+    warmStartSpherical base j (withDeltaPosition stateA pA) (withDeltaPosition stateB pB) ≡ warmStartSpherical base j stateA stateB
+unfolding warmStartSpherical velocitiesOf
+warm-start-delta-position base j stateA stateB pA pB = refl
+
+-- of a context prepare reads h and enable_warm_starting, a solve h and inv_h
+pub prepare-context : (sim : JointSim) (context other : StepContext) (bodyA bodyB : BodyRecord) →
+    context .h ≡ other .h →
+    context .«enable_warm_starting» ≡ other .«enable_warm_starting» →
+    prepareSphericalJoint sim context bodyA bodyB ≡ prepareSphericalJoint sim other bodyA bodyB
+unfolding prepareSphericalJoint
+prepare-context sim context other bodyA bodyB same-h same-switch = rw (same-h, same-switch)
+
+pub solve-context : (sim : JointSim) (context other : StepContext) (stateA stateB : BodyState) (useBias : Bool) →
+    context .h ≡ other .h →
+    context .«inv_h» ≡ other .«inv_h» →
+    solveSphericalJoint sim context stateA stateB useBias ≡ solveSphericalJoint sim other stateA stateB useBias
+unfolding solveSphericalJoint
+solve-context sim context other stateA stateB useBias same-h same-inv-h = rw (same-h, same-inv-h)
+
+-- ---- a call on a joint
+
+-- a number for each case of the union
+abbrev pub caseOf : JointUnion → ℕ
+caseOf (Revolute j) = 0
+caseOf (Spherical j) = 1
+caseOf (Weld j) = 2
+caseOf Other = 3
+
+abbrev pub isSpherical : JointUnion → Bool
+isSpherical (Revolute j) = false
+isSpherical (Spherical j) = true
+isSpherical (Weld j) = false
+isSpherical Other = false
+
+-- what a call on `sim` answers, where it leaves `next`: number 1 exactly where the case is another, else 0; place 0; the case is kept
+pub record Answered (sim next : JointSim) (number place : ℕ) : Type 0 where
+  pub number-is : number ≡ cond (isSpherical (sim .«union_»)) 0 1
+  pub place-is : place ≡ 0
+  pub case-is : caseOf (next .«union_») ≡ caseOf (sim .«union_»)
+
+module _ (sim : JointSim) (context : StepContext) (bodyA bodyB : BodyRecord) where
+  pub prepare-answered :
+      let r = prepareSphericalJoint sim context bodyA bodyB in
+      Answered sim (r .joint) (r .number) (r .place)
+  unfolding prepareSphericalJoint prepareSphericalUnion
+  prepare-answered = go (sim .«union_»)
+    where
+      go : (u : JointUnion) →
+          let r = prepareSphericalUnion u (jointSim (sim .base) u) (context .h) (context .«enable_warm_starting») bodyA bodyB in
+          Answered (jointSim (sim .base) u) (r .joint) (r .number) (r .place)
+      go (Revolute j) = record { number-is = refl; place-is = refl; case-is = refl }
+      go (Spherical j) = record { number-is = refl; place-is = refl; case-is = refl }
+      go (Weld j) = record { number-is = refl; place-is = refl; case-is = refl }
+      go Other = record { number-is = refl; place-is = refl; case-is = refl }
+
+  -- a refusal leaves the joint as it was
+  pub prepare-refused : isSpherical (sim .«union_») ≡ false → prepareSphericalJoint sim context bodyA bodyB ≡ notPrepared sim
+  unfolding prepareSphericalJoint prepareSphericalUnion
+  prepare-refused = go (sim .«union_»)
+    where
+      go : (u : JointUnion) → isSpherical u ≡ false → prepareSphericalUnion u sim (context .h) (context .«enable_warm_starting») bodyA bodyB ≡ notPrepared sim
+      go (Revolute j) other = refl
+      go (Spherical j) other = cc
+      go (Weld j) other = refl
+      go Other other = refl
+
+module _ (sim : JointSim) (stateA stateB : BodyState) where
+  pub warm-start-answered :
+      let r = warmStartSphericalJoint sim stateA stateB in
+      Answered sim (r .joint) (r .number) (r .place)
+  unfolding warmStartSphericalJoint warmStartSphericalUnion
+  warm-start-answered = go (sim .«union_»)
+    where
+      go : (u : JointUnion) →
+          let r = warmStartSphericalUnion u (jointSim (sim .base) u) stateA stateB in
+          Answered (jointSim (sim .base) u) (r .joint) (r .number) (r .place)
+      go (Revolute j) = record { number-is = refl; place-is = refl; case-is = refl }
+      go (Spherical j) = record { number-is = refl; place-is = refl; case-is = refl }
+      go (Weld j) = record { number-is = refl; place-is = refl; case-is = refl }
+      go Other = record { number-is = refl; place-is = refl; case-is = refl }
+
+  -- a warm start changes no field of the joint
+  pub warm-start-joint : warmStartSphericalJoint sim stateA stateB .joint ≡ sim
+  unfolding warmStartSphericalJoint warmStartSphericalUnion
+  warm-start-joint = go (sim .«union_»)
+    where
+      go : (u : JointUnion) → warmStartSphericalUnion u sim stateA stateB .joint ≡ sim
+      go (Revolute j) = refl
+      go (Spherical j) = refl
+      go (Weld j) = refl
+      go Other = refl
+
+  -- a refusal leaves the joint and the velocities as they were
+  pub warm-start-refused : isSpherical (sim .«union_») ≡ false → warmStartSphericalJoint sim stateA stateB ≡ notWarmStarted sim stateA stateB
+  unfolding warmStartSphericalJoint warmStartSphericalUnion
+  warm-start-refused = go (sim .«union_»)
+    where
+      go : (u : JointUnion) → isSpherical u ≡ false → warmStartSphericalUnion u sim stateA stateB ≡ notWarmStarted sim stateA stateB
+      go (Revolute j) other = refl
+      go (Spherical j) other = cc
+      go (Weld j) other = refl
+      go Other other = refl
+
+module _ (sim : JointSim) (context : StepContext) (stateA stateB : BodyState) (useBias : Bool) where
+  pub solve-answered :
+      let r = solveSphericalJoint sim context stateA stateB useBias in
+      Answered sim (r .joint) (r .number) (r .place)
+  unfolding solveSphericalJoint solveSphericalUnion
+  solve-answered = go (sim .«union_»)
+    where
+      go : (u : JointUnion) →
+          let r = solveSphericalUnion u (jointSim (sim .base) u) (context .h) (context .«inv_h») stateA stateB useBias in
+          Answered (jointSim (sim .base) u) (r .joint) (r .number) (r .place)
+      go (Revolute j) = record { number-is = refl; place-is = refl; case-is = refl }
+      go (Spherical j) = record { number-is = refl; place-is = refl; case-is = refl }
+      go (Weld j) = record { number-is = refl; place-is = refl; case-is = refl }
+      go Other = record { number-is = refl; place-is = refl; case-is = refl }
+
+  pub solve-base : solveSphericalJoint sim context stateA stateB useBias .joint .base ≡ sim .base
+  unfolding solveSphericalJoint solveSphericalUnion
+  solve-base = go (sim .«union_»)
+    where
+      go : (u : JointUnion) → solveSphericalUnion u sim (context .h) (context .«inv_h») stateA stateB useBias .joint .base ≡ sim .base
+      go (Revolute j) = refl
+      go (Spherical j) = refl
+      go (Weld j) = refl
+      go Other = refl
+
+  -- a refusal leaves the joint and the velocities as they were
+  pub solve-refused : isSpherical (sim .«union_») ≡ false → solveSphericalJoint sim context stateA stateB useBias ≡ notSolved sim stateA stateB
+  unfolding solveSphericalJoint solveSphericalUnion
+  solve-refused = go (sim .«union_»)
+    where
+      go : (u : JointUnion) → isSpherical u ≡ false → solveSphericalUnion u sim (context .h) (context .«inv_h») stateA stateB useBias ≡ notSolved sim stateA stateB
+      go (Revolute j) other = refl
+      go (Spherical j) other = cc
+      go (Weld j) other = refl
+      go Other other = refl

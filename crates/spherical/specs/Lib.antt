@@ -1,0 +1,2 @@
+pub mod Spherical
+pub mod Facts

@@ -1,0 +1,287 @@
+-- joint/spherical.rs: prepare, warm start and solve of a ball joint. Definitions only. Assumes nothing.
+use mathlib.Core.Bool.{Bool, not, cond}
+use lib.Ieee.{Float}
+use lib.IntN.{ℤ}
+use Rattle.sqrt.specs.Sqrt.{sqrt}
+use Rattle.math_functions.specs.declared.types.Vec3.{Vec3}
+use Rattle.math_functions.specs.declared.types.Quat.{Quat}
+use Rattle.math_functions.specs.declared.types.Transform.{Transform}
+use Rattle.math_functions.specs.declared.types.Matrix3.{Matrix3}
+use Rattle.math_functions.specs.Float.{_⊕_, _⊖_, _⊗_, _⊘_, gt, zero}
+use Rattle.math_functions.specs.Types.{vec3Zero, vec3AxisZ, mat3Zero}
+use Rattle.math_functions.specs.Vector.{add, sub, neg, length, normalize, mulAdd, mulSub, mulSv, cross}
+use Rattle.math_functions.specs.Quat.{rotateVector, invMulQuat, deltaQuatToRotation, getSwingAngle}
+use Rattle.math_functions.specs.Matrix.{addMm, mulMv, invertMatrix, solve3}
+use Rattle.math_functions.specs.Transform.{subPos}
+use Rattle.solver.specs.declared.Softness.{Softness}
+use Rattle.solver.specs.declared.StepContext.{StepContext}
+use Rattle.solver.specs.Solver.{makeSoft}
+use Rattle.records.specs.declared.body.BodyRecord.{BodyRecord}
+use Rattle.records.specs.declared.body.BodyState.{BodyState}
+use Rattle.records.specs.declared.joint.JointBase.{JointBase}
+use Rattle.records.specs.declared.joint.JointSim.{JointSim}
+use Rattle.records.specs.declared.joint.JointUnion.{JointUnion}
+use Rattle.records.specs.declared.joint.JointUnion.the-variants.{Revolute, Spherical, Weld, Other}
+use Rattle.records.specs.declared.joint.SphericalJoint.{SphericalJoint}
+use Rattle.constraint.specs.declared.velocity.Velocities.{Velocities}
+use Rattle.constraint.specs.declared.velocity.InvMasses.{InvMasses}
+use Rattle.constraint.specs.declared.rotation.RelativeRotation.{RelativeRotation}
+use Rattle.constraint.specs.declared.angular.AxialRow.{AxialRow}
+use Rattle.constraint.specs.declared.angular.Row3.{Row3}
+use Rattle.constraint.specs.declared.answer.Prepared.{Prepared}
+use Rattle.constraint.specs.declared.answer.WarmStarted.{WarmStarted}
+use Rattle.constraint.specs.declared.answer.Solved.{Solved}
+use Rattle.constraint.specs.Velocity.{velocitiesOf, invMassesOf, applyAngular, applyPoint, applyWarm}
+use Rattle.constraint.specs.Soft.{softBias3, limitBias, softImpulse3}
+use Rattle.constraint.specs.Rotation.{relativeRotation}
+use Rattle.constraint.specs.Angular.{axialRow, row3, isWorked, upperLimitRow, angularRow, twistLimitRows}
+use Rattle.constraint.specs.Point.{pointBias, pointMass, pointCdot}
+use Rattle.constraint.specs.Prepare.{prepareBase, awakeIndex, prepareFrame, axialMass}
+use Rattle.constraint.specs.Answer.{jointSim, prepared, notPrepared, warmStarted, notWarmStarted, solved, notSolved}
+use Rattle.spherical.specs.declared.prepare.LimitAxis.{LimitAxis}
+use Rattle.spherical.specs.declared.prepare.SphericalPrepared.{SphericalPrepared}
+use Rattle.spherical.specs.declared.stages.SphericalSolved.{SphericalSolved}
+
+-- the joint with other impulses: linear, spring, motor, lower twist, upper twist, swing. All else is j's.
+abbrev pub withImpulses : SphericalJoint → Vec3 → Vec3 → Vec3 → Float → Float → Float → SphericalJoint
+withImpulses j linear spring motor lowerTwist upperTwist swing =
+    record {
+      «linear_impulse» = linear;
+      «spring_impulse» = spring;
+      «motor_impulse» = motor;
+      «lower_twist_impulse» = lowerTwist;
+      «upper_twist_impulse» = upperTwist;
+      «swing_impulse» = swing;
+      hertz = j .hertz;
+      «damping_ratio» = j .«damping_ratio»;
+      «max_motor_torque» = j .«max_motor_torque»;
+      «motor_velocity» = j .«motor_velocity»;
+      «lower_twist_angle» = j .«lower_twist_angle»;
+      «upper_twist_angle» = j .«upper_twist_angle»;
+      «cone_angle» = j .«cone_angle»;
+      «target_rotation» = j .«target_rotation»;
+      «index_a» = j .«index_a»;
+      «index_b» = j .«index_b»;
+      «frame_a» = j .«frame_a»;
+      «frame_b» = j .«frame_b»;
+      «delta_center» = j .«delta_center»;
+      «swing_axis» = j .«swing_axis»;
+      «twist_jacobian» = j .«twist_jacobian»;
+      «rotation_mass» = j .«rotation_mass»;
+      «swing_mass» = j .«swing_mass»;
+      «twist_mass» = j .«twist_mass»;
+      «spring_softness» = j .«spring_softness»;
+      «enable_spring» = j .«enable_spring»;
+      «enable_motor» = j .«enable_motor»;
+      «enable_cone_limit» = j .«enable_cone_limit»;
+      «enable_twist_limit» = j .«enable_twist_limit»;
+    }
+
+-- ---- the rows of a solve
+
+-- Spring. The error is the rotation to the target, turned into the world; the softness is the spring's own, with or without bias.
+unfoldable pub springRow : Bool → RelativeRotation → Quat → Softness → Matrix3 → Vec3 → InvMasses → Velocities → Row3
+springRow worked rotation targetRotation springSoftness rotationMass oldImpulse m v =
+    let c = neg (rotateVector (rotation .«quat_a») (deltaQuatToRotation (rotation .«rel_q») targetRotation)) in
+    cond (not worked) (row3 oldImpulse v) (angularRow (softBias3 springSoftness c) rotationMass oldImpulse m v)
+
+-- the impulse, scaled where it is longer than maxImpulse
+unfoldable pub limitLength : Vec3 → Float → Vec3
+limitLength impulse maxImpulse =
+    let len = length impulse in
+    cond (gt len maxImpulse) (mulSv (maxImpulse ⊘ len) impulse) impulse
+
+-- Motor: its impulse is a vector, scaled to the length max_motor_torque × h where it is longer (revolute's is a number, clamped).
+unfoldable pub motorRow : Bool → Vec3 → Float → Float → Matrix3 → Vec3 → InvMasses → Velocities → Row3
+motorRow worked motorVelocity maxMotorTorque h rotationMass oldImpulse m v =
+    let cdot = sub (v .«w_b») (v .«w_a») in
+    let lambda = neg (mulMv rotationMass (sub cdot motorVelocity)) in
+    let impulse = limitLength (add oldImpulse lambda) (maxMotorTorque ⊗ h) in
+    cond (not worked) (row3 oldImpulse v) (row3 impulse (applyAngular m (sub impulse oldImpulse) v))
+
+-- Cone: an upper limit, about the swing axis. The gap is the cone's angle less the swing angle.
+unfoldable pub coneRow : Bool → Quat → Float → Softness → Float → Bool → Float → Vec3 → Float → InvMasses → Velocities → AxialRow
+coneRow worked relQ coneAngle s invH useBias swingMass swingAxis oldImpulse m v =
+    let c = coneAngle ⊖ getSwingAngle relQ in
+    cond (not worked) (axialRow oldImpulse v) (upperLimitRow (limitBias c s invH useBias) swingMass swingAxis oldImpulse m v)
+
+-- Point: worked with fixed rotation too; softened where the call has bias.
+unfoldable pub pointRow : Bool → Softness → Vec3 → Vec3 → Vec3 → Vec3 → Vec3 → Vec3 → InvMasses → Velocities → Row3
+pointRow useBias s rA rB dcA dcB deltaCenter oldImpulse m v =
+    let cdot = pointCdot rA rB v in
+    let soft = pointBias useBias s rA rB dcA dcB deltaCenter in
+    let b = solve3 (pointMass m rA rB) (add cdot (soft .bias)) in
+    let impulse = softImpulse3 soft b oldImpulse in
+    row3 (add oldImpulse impulse) (applyPoint m rA rB impulse v)
+
+-- ---- prepare
+
+abbrev pub limitAxis : Vec3 → Float → LimitAxis
+limitAxis axis mass = record { axis = axis; mass = mass }
+
+-- what prepare stores into the joint, apart from impulses that it clears
+abbrev pub withPrepared : SphericalJoint → ℤ → ℤ → Transform → Transform → Vec3 → LimitAxis → LimitAxis → Matrix3 → Softness → SphericalJoint
+withPrepared j indexA indexB frameA frameB deltaCenter swing twist rotationMass springSoftness =
+    record {
+      «linear_impulse» = j .«linear_impulse»;
+      «spring_impulse» = j .«spring_impulse»;
+      «motor_impulse» = j .«motor_impulse»;
+      «lower_twist_impulse» = j .«lower_twist_impulse»;
+      «upper_twist_impulse» = j .«upper_twist_impulse»;
+      «swing_impulse» = j .«swing_impulse»;
+      hertz = j .hertz;
+      «damping_ratio» = j .«damping_ratio»;
+      «max_motor_torque» = j .«max_motor_torque»;
+      «motor_velocity» = j .«motor_velocity»;
+      «lower_twist_angle» = j .«lower_twist_angle»;
+      «upper_twist_angle» = j .«upper_twist_angle»;
+      «cone_angle» = j .«cone_angle»;
+      «target_rotation» = j .«target_rotation»;
+      «index_a» = indexA;
+      «index_b» = indexB;
+      «frame_a» = frameA;
+      «frame_b» = frameB;
+      «delta_center» = deltaCenter;
+      «swing_axis» = swing .axis;
+      «twist_jacobian» = twist .axis;
+      «rotation_mass» = rotationMass;
+      «swing_mass» = swing .mass;
+      «twist_mass» = twist .mass;
+      «spring_softness» = springSoftness;
+      «enable_spring» = j .«enable_spring»;
+      «enable_motor» = j .«enable_motor»;
+      «enable_cone_limit» = j .«enable_cone_limit»;
+      «enable_twist_limit» = j .«enable_twist_limit»;
+    }
+
+-- swing values are stored only if the cone is on; older ones stay. The axis may be zero.
+unfoldable pub prepareSwing : SphericalJoint → Matrix3 → Vec3 → Vec3 → LimitAxis
+prepareSwing j invInertiaSum coneAxis twistAxis =
+    let axis = normalize (cross coneAxis twistAxis) in
+    cond (not (j .«enable_cone_limit»)) (limitAxis (j .«swing_axis») (j .«swing_mass»)) (limitAxis axis (axialMass invInertiaSum axis))
+
+unfoldable pub twistJacobian : Quat → Quat → Vec3 → Vec3 → Vec3
+twistJacobian quatA quatB coneAxis twistAxis =
+    let relQ = invMulQuat quatA quatB in
+    let x = relQ .v .x in
+    let y = relQ .v .y in
+    let z = relQ .v .z in
+    let tanThetaOver2 = sqrt ((x ⊗ x ⊕ y ⊗ y) ⊘ (z ⊗ z ⊕ relQ .s ⊗ relQ .s)) in
+    let swing = normalize (cross coneAxis twistAxis) in
+    let perpAxis = cross swing coneAxis in
+    mulAdd coneAxis tanThetaOver2 perpAxis
+
+-- twist values likewise
+unfoldable pub prepareTwist : SphericalJoint → Matrix3 → Quat → Quat → Vec3 → Vec3 → LimitAxis
+prepareTwist j invInertiaSum quatA quatB coneAxis twistAxis =
+    let jac = twistJacobian quatA quatB coneAxis twistAxis in
+    cond (not (j .«enable_twist_limit»)) (limitAxis (j .«twist_jacobian») (j .«twist_mass»)) (limitAxis jac (axialMass invInertiaSum jac))
+
+-- zero when rotation is fixed
+unfoldable pub prepareRotationMass : Bool → Matrix3 → Matrix3
+prepareRotationMass fixedRotation invInertiaSum = cond (not fixedRotation) (invertMatrix invInertiaSum) mat3Zero
+
+-- impulses are cleared only if warm starting is off
+unfoldable pub prepareImpulses : SphericalJoint → Bool → SphericalJoint
+prepareImpulses j enableWarmStarting = cond (not enableWarmStarting) (withImpulses j vec3Zero vec3Zero vec3Zero zero zero zero) j
+
+-- ---- the stages
+
+abbrev pub sphericalPrepared : JointBase → SphericalJoint → SphericalPrepared
+sphericalPrepared base joint = record { base = base; joint = joint }
+
+-- the cone axis is the z-axis of frame A, the twist axis that of frame B
+unfoldable pub prepareSpherical : JointBase → SphericalJoint → Float → Bool → BodyRecord → BodyRecord → SphericalPrepared
+prepareSpherical base j h enableWarmStarting bodyA bodyB =
+    let next = prepareBase base bodyA bodyB in
+    let invInertiaSum = addMm (next .«inv_i_a») (next .«inv_i_b») in
+    let frameA = prepareFrame bodyA (base .«local_frame_a») in
+    let frameB = prepareFrame bodyB (base .«local_frame_b») in
+    let deltaCenter = subPos (bodyB .center) (bodyA .center) in
+    let coneAxis = rotateVector (frameA .q) vec3AxisZ in
+    let twistAxis = rotateVector (frameB .q) vec3AxisZ in
+    let swing = prepareSwing j invInertiaSum coneAxis twistAxis in
+    let twist = prepareTwist j invInertiaSum (frameA .q) (frameB .q) coneAxis twistAxis in
+    let rotationMass = prepareRotationMass (next .«fixed_rotation») invInertiaSum in
+    let springSoftness = makeSoft (j .hertz) (j .«damping_ratio») h in
+    let out = withPrepared j (awakeIndex bodyA) (awakeIndex bodyB) frameA frameB deltaCenter swing twist rotationMass springSoftness in
+    sphericalPrepared next (prepareImpulses out enableWarmStarting)
+
+-- The swing impulse is subtracted. Of a state only the velocities and the delta rotation are read.
+unfoldable pub warmStartSpherical : JointBase → SphericalJoint → BodyState → BodyState → Velocities
+warmStartSpherical base j stateA stateB =
+    let rA = rotateVector (stateA .«delta_rotation») (j .«frame_a» .p) in
+    let rB = rotateVector (stateB .«delta_rotation») (j .«frame_b» .p) in
+    let angularImpulse = add (j .«spring_impulse») (j .«motor_impulse») in
+    let angularImpulse = mulSub angularImpulse (j .«swing_impulse») (j .«swing_axis») in
+    let angularImpulse = mulAdd angularImpulse (j .«lower_twist_impulse» ⊖ j .«upper_twist_impulse») (j .«twist_jacobian») in
+    applyWarm (invMassesOf base) rA rB (j .«linear_impulse») angularImpulse (velocitiesOf stateA stateB)
+
+abbrev pub sphericalSolved : SphericalJoint → Velocities → SphericalSolved
+sphericalSolved joint velocities = record { joint = joint; velocities = velocities }
+
+-- Document 01's rows of a spherical solve, in order: spring, motor, lower and upper twist, cone, point. The second quaternion is not flipped.
+unfoldable pub solveSpherical : JointBase → SphericalJoint → Float → Float → BodyState → BodyState → Bool → SphericalSolved
+solveSpherical base j h invH stateA stateB useBias =
+    let m = invMassesOf base in
+    let fixedRotation = base .«fixed_rotation» in
+    let s = base .«constraint_softness» in
+    let rotation = relativeRotation (stateA .«delta_rotation») (j .«frame_a» .q) (stateB .«delta_rotation») (j .«frame_b» .q) in
+    let relQ = rotation .«rel_q» in
+    let spring =
+    springRow (isWorked (j .«enable_spring») fixedRotation) rotation (j .«target_rotation») (j .«spring_softness»)
+    (j .«rotation_mass») (j .«spring_impulse») m (velocitiesOf stateA stateB) in
+    let motor =
+    motorRow (isWorked (j .«enable_motor») fixedRotation) (j .«motor_velocity») (j .«max_motor_torque») h
+    (j .«rotation_mass») (j .«motor_impulse») m (spring .velocities) in
+    let twist =
+    twistLimitRows (isWorked (j .«enable_twist_limit») fixedRotation) relQ (j .«lower_twist_angle») (j .«upper_twist_angle») s invH useBias
+    (j .«twist_mass») (j .«twist_jacobian») (j .«lower_twist_impulse») (j .«upper_twist_impulse») m (motor .velocities) in
+    let cone =
+    coneRow (isWorked (j .«enable_cone_limit») fixedRotation) relQ (j .«cone_angle») s invH useBias
+    (j .«swing_mass») (j .«swing_axis») (j .«swing_impulse») m (twist .velocities) in
+    let rA = rotateVector (stateA .«delta_rotation») (j .«frame_a» .p) in
+    let rB = rotateVector (stateB .«delta_rotation») (j .«frame_b» .p) in
+    let point =
+    pointRow useBias s rA rB (stateA .«delta_position») (stateB .«delta_position») (j .«delta_center»)
+    (j .«linear_impulse») m (cone .velocities) in
+    sphericalSolved
+    (withImpulses j (point .impulse) (spring .impulse) (motor .impulse) (twist .«lower_impulse») (twist .«upper_impulse») (cone .impulse))
+    (point .velocities)
+
+-- ---- the stages of a joint, whose case may be another
+
+unfoldable pub prepareSphericalUnion : JointUnion → JointSim → Float → Bool → BodyRecord → BodyRecord → Prepared
+prepareSphericalUnion (Revolute j) sim h enableWarmStarting bodyA bodyB = notPrepared sim
+prepareSphericalUnion (Spherical j) sim h enableWarmStarting bodyA bodyB =
+    let r = prepareSpherical (sim .base) j h enableWarmStarting bodyA bodyB in
+    prepared (jointSim (r .base) (Spherical (r .joint)))
+prepareSphericalUnion (Weld j) sim h enableWarmStarting bodyA bodyB = notPrepared sim
+prepareSphericalUnion Other sim h enableWarmStarting bodyA bodyB = notPrepared sim
+
+-- of the context the sub-step and the switch of warm starting
+unfoldable pub prepareSphericalJoint : JointSim → StepContext → BodyRecord → BodyRecord → Prepared
+prepareSphericalJoint sim context bodyA bodyB =
+    prepareSphericalUnion (sim .«union_») sim (context .h) (context .«enable_warm_starting») bodyA bodyB
+
+unfoldable pub warmStartSphericalUnion : JointUnion → JointSim → BodyState → BodyState → WarmStarted
+warmStartSphericalUnion (Revolute j) sim stateA stateB = notWarmStarted sim stateA stateB
+warmStartSphericalUnion (Spherical j) sim stateA stateB = warmStarted sim (warmStartSpherical (sim .base) j stateA stateB)
+warmStartSphericalUnion (Weld j) sim stateA stateB = notWarmStarted sim stateA stateB
+warmStartSphericalUnion Other sim stateA stateB = notWarmStarted sim stateA stateB
+
+unfoldable pub warmStartSphericalJoint : JointSim → BodyState → BodyState → WarmStarted
+warmStartSphericalJoint sim stateA stateB = warmStartSphericalUnion (sim .«union_») sim stateA stateB
+
+unfoldable pub solveSphericalUnion : JointUnion → JointSim → Float → Float → BodyState → BodyState → Bool → Solved
+solveSphericalUnion (Revolute j) sim h invH stateA stateB useBias = notSolved sim stateA stateB
+solveSphericalUnion (Spherical j) sim h invH stateA stateB useBias =
+    let r = solveSpherical (sim .base) j h invH stateA stateB useBias in
+    solved (jointSim (sim .base) (Spherical (r .joint))) (r .velocities)
+solveSphericalUnion (Weld j) sim h invH stateA stateB useBias = notSolved sim stateA stateB
+solveSphericalUnion Other sim h invH stateA stateB useBias = notSolved sim stateA stateB
+
+-- of the context the sub-step and its inverse
+unfoldable pub solveSphericalJoint : JointSim → StepContext → BodyState → BodyState → Bool → Solved
+solveSphericalJoint sim context stateA stateB useBias =
+    solveSphericalUnion (sim .«union_») sim (context .h) (context .«inv_h») stateA stateB useBias

@@ -1,0 +1,124 @@
+// The ball joint: prepare, warm start and solve. A joint whose case is not spherical gets number 1,
+// and comes back as it was.
+ghost use mathlib.Core.Path.{_≡_};
+ghost use Rattle.constraint.specs.Answer.{jointSim};
+ghost use Rattle.records.specs.declared.joint.JointUnion.the-variants.{Spherical};
+ghost use Rattle.spherical.specs.Spherical as D;
+use crate::prepare::prepare_spherical;
+use crate::stages::solve_spherical;
+use crate::stages::warm_start_spherical;
+use constraint::answer::Prepared;
+use constraint::answer::Solved;
+use constraint::answer::WRONG_KIND;
+use constraint::answer::WarmStarted;
+use constraint::velocity::velocities_of;
+use records::body::BodyRecord;
+use records::body::BodyState;
+use records::joint::JointBase;
+use records::joint::JointSim;
+use records::joint::JointUnion;
+use records::joint::SphericalJoint;
+use solver::StepContext;
+
+pub mod prepare;
+pub mod rows;
+pub mod stages;
+
+// A joint of this kind.
+fn spherical_sim(base: JointBase, joint: SphericalJoint) -> JointSim
+    ensures { λ r. ⌜ r ≡ jointSim base (Spherical joint) ⌝ }
+{
+    JointSim {
+        base,
+        union_: JointUnion::Spherical(joint),
+    }
+}
+
+pub fn prepare_spherical_joint(
+    joint: JointSim,
+    context: StepContext,
+    body_a: BodyRecord,
+    body_b: BodyRecord,
+) -> Prepared
+    ensures { λ r. ⌜ r ≡ D.prepareSphericalJoint joint context «body_a» «body_b» ⌝ }
+{
+    let u = joint.union_;
+    let JointUnion::Spherical(k) = u else {
+        return Prepared {
+            number: WRONG_KIND,
+            place: 0,
+            joint,
+        };
+    };
+    let warm = context.enable_warm_starting;
+    let next = prepare_spherical(joint.base, k, context.h, warm, body_a, body_b);
+    Prepared {
+        number: 0,
+        place: 0,
+        joint: spherical_sim(next.base, next.joint),
+    }
+}
+
+// The joint is read only.
+pub fn warm_start_spherical_joint(
+    joint: JointSim,
+    state_a: BodyState,
+    state_b: BodyState,
+) -> WarmStarted
+    ensures { λ r. ⌜ r ≡ D.warmStartSphericalJoint joint «state_a» «state_b» ⌝ }
+{
+    let u = joint.union_;
+    let JointUnion::Spherical(k) = u else {
+        let velocities = velocities_of(state_a, state_b);
+        return WarmStarted {
+            number: WRONG_KIND,
+            place: 0,
+            joint,
+            velocities,
+        };
+    };
+    let velocities = warm_start_spherical(joint.base, k, state_a, state_b);
+    WarmStarted {
+        number: 0,
+        place: 0,
+        joint,
+        velocities,
+    }
+}
+
+pub fn solve_spherical_joint(
+    joint: JointSim,
+    context: StepContext,
+    state_a: BodyState,
+    state_b: BodyState,
+    use_bias: bool,
+) -> Solved
+    ensures { λ r. ⌜ r ≡ D.solveSphericalJoint joint context «state_a» «state_b» «use_bias» ⌝ }
+{
+    let u = joint.union_;
+    let JointUnion::Spherical(k) = u else {
+        let velocities = velocities_of(state_a, state_b);
+        return Solved {
+            number: WRONG_KIND,
+            place: 0,
+            joint,
+            velocities,
+        };
+    };
+    let next = solve_spherical(
+        joint.base,
+        k,
+        context.h,
+        context.inv_h,
+        state_a,
+        state_b,
+        use_bias,
+    );
+    let velocities = next.velocities;
+    Solved {
+        number: 0,
+        place: 0,
+        joint: spherical_sim(joint.base, next.joint),
+        velocities,
+    }
+}

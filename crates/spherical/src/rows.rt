@@ -1,0 +1,153 @@
+// The rows of a spherical joint's solve. A row that is not worked leaves its impulse and the
+// velocities as they were.
+ghost use mathlib.Core.Path.{_≡_};
+ghost use Rattle.spherical.specs.Spherical as D;
+use constraint::angular::AxialRow;
+use constraint::angular::Row3;
+use constraint::angular::angular_row;
+use constraint::angular::upper_limit_row;
+use constraint::point::point_bias;
+use constraint::point::point_cdot;
+use constraint::point::point_mass;
+use constraint::rotation::RelativeRotation;
+use constraint::soft::limit_bias;
+use constraint::soft::soft_bias3;
+use constraint::soft::soft_impulse3;
+use constraint::velocity::InvMasses;
+use constraint::velocity::Velocities;
+use constraint::velocity::apply_angular;
+use constraint::velocity::apply_point;
+use math_functions::matrix::mul_mv;
+use math_functions::matrix::solve3;
+use math_functions::quat::delta_quat_to_rotation;
+use math_functions::quat::get_swing_angle;
+use math_functions::quat::rotate_vector;
+use math_functions::types::Matrix3;
+use math_functions::types::Quat;
+use math_functions::types::Vec3;
+use math_functions::vector::add;
+use math_functions::vector::length;
+use math_functions::vector::mul_sv;
+use math_functions::vector::neg;
+use math_functions::vector::sub;
+use solver::Softness;
+
+// The spring pulls the rotation of frame B relative to frame A to the target.
+pub fn spring_row(
+    worked: bool,
+    rotation: RelativeRotation,
+    target_rotation: Quat,
+    softness: Softness,
+    mass: Matrix3,
+    old_impulse: Vec3,
+    m: InvMasses,
+    v: Velocities,
+) -> Row3
+    ensures { λ r. ⌜ r ≡ D.springRow worked rotation «target_rotation» softness mass «old_impulse» m v ⌝ }
+{
+    if !worked {
+        return Row3 {
+            impulse: old_impulse,
+            velocities: v,
+        };
+    }
+    // Rotation constraint error
+    let delta_rotation = delta_quat_to_rotation(rotation.rel_q, target_rotation);
+    let c = neg(rotate_vector(rotation.quat_a, delta_rotation));
+    angular_row(soft_bias3(softness, c), mass, old_impulse, m, v)
+}
+
+// The impulse, scaled where it is longer than max_impulse.
+pub fn limit_length(impulse: Vec3, max_impulse: f32) -> Vec3
+    ensures { λ r. ⌜ r ≡ D.limitLength impulse «max_impulse» ⌝ }
+{
+    let len = length(impulse);
+    if len > max_impulse {
+        mul_sv(max_impulse / len, impulse)
+    } else {
+        impulse
+    }
+}
+
+// The motor drives the relative angular velocity to the motor's.
+pub fn motor_row(
+    worked: bool,
+    motor_velocity: Vec3,
+    max_motor_torque: f32,
+    h: f32,
+    mass: Matrix3,
+    old_impulse: Vec3,
+    m: InvMasses,
+    v: Velocities,
+) -> Row3
+    ensures { λ r. ⌜ r ≡ D.motorRow worked «motor_velocity» «max_motor_torque» h mass «old_impulse» m v ⌝ }
+{
+    if !worked {
+        return Row3 {
+            impulse: old_impulse,
+            velocities: v,
+        };
+    }
+    let cdot = sub(v.w_b, v.w_a);
+    let lambda = neg(mul_mv(mass, sub(cdot, motor_velocity)));
+    let impulse = limit_length(add(old_impulse, lambda), max_motor_torque * h);
+    let velocities = apply_angular(m, sub(impulse, old_impulse), v);
+    Row3 {
+        impulse,
+        velocities,
+    }
+}
+
+// The cone: an upper limit of the swing angle.
+pub fn cone_row(
+    worked: bool,
+    rel_q: Quat,
+    cone_angle: f32,
+    softness: Softness,
+    inv_h: f32,
+    use_bias: bool,
+    mass: f32,
+    axis: Vec3,
+    old_impulse: f32,
+    m: InvMasses,
+    v: Velocities,
+) -> AxialRow
+    ensures { λ r. ⌜ r ≡ D.coneRow worked «rel_q» «cone_angle» softness «inv_h» «use_bias» mass axis «old_impulse» m v ⌝ }
+{
+    if !worked {
+        return AxialRow {
+            impulse: old_impulse,
+            velocities: v,
+        };
+    }
+    let c = cone_angle - get_swing_angle(rel_q);
+    let s = limit_bias(c, softness, inv_h, use_bias);
+    upper_limit_row(s, mass, axis, old_impulse, m, v)
+}
+
+// The point row holds the two anchors together.
+pub fn point_row(
+    use_bias: bool,
+    softness: Softness,
+    r_a: Vec3,
+    r_b: Vec3,
+    dc_a: Vec3,
+    dc_b: Vec3,
+    delta_center: Vec3,
+    old_impulse: Vec3,
+    m: InvMasses,
+    v: Velocities,
+) -> Row3
+    ensures { λ r. ⌜ r ≡ D.pointRow «use_bias» softness «r_a» «r_b» «dc_a» «dc_b» «delta_center» «old_impulse» m v ⌝ }
+{
+    let cdot = point_cdot(r_a, r_b, v);
+    let s = point_bias(use_bias, softness, r_a, r_b, dc_a, dc_b, delta_center);
+    let b = solve3(point_mass(m, r_a, r_b), add(cdot, s.bias));
+    let delta_impulse = soft_impulse3(s, b, old_impulse);
+    let impulse = add(old_impulse, delta_impulse);
+    let velocities = apply_point(m, r_a, r_b, delta_impulse, v);
+    Row3 {
+        impulse,
+        velocities,
+    }
+}

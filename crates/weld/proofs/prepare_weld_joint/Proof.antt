@@ -1,0 +1,18 @@
+use borrow.Author.Needs.{needs}
+use Rattle.weld.specs.Weld.{prepareWeldJoint, prepareWeldUnion}
+use Rattle.weld.specs.Facts.{prepare-refused}
+use Rattle.weld.proofs.Cases.{not-weld}
+use Rattle.weld.proofs.prepare_weld_joint.Statement.{statement}
+use Rattle.weld.proofs.prepare_weld_joint.Tie as tie
+
+returns : tie.Need-returns
+returns c =
+    let args = c .before .args in
+    rw (prepare-refused (args .joint) (args .context) (args .body-a) (args .body-b) (not-weld (args .joint .«union_») (c .match .keys2)))
+
+returns-2 : tie.Need-returns-2
+unfolding prepareWeldJoint prepareWeldUnion
+returns-2 c = rw (c .before .before .before .before .u .given .1, ← (c .before .before .prepare-weld .ensures))
+
+pub prepare-weld-joint-spec : {M : Type 1} → statement M
+prepare-weld-joint-spec = tie.close (tie.spec (λ c. search needs) returns (λ c κs. tt) returns-2)

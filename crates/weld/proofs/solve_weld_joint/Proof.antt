@@ -1,0 +1,18 @@
+use borrow.Author.Needs.{needs}
+use Rattle.weld.specs.Weld.{solveWeldJoint, solveWeldUnion}
+use Rattle.weld.specs.Facts.{solve-refused}
+use Rattle.weld.proofs.Cases.{not-weld}
+use Rattle.weld.proofs.solve_weld_joint.Statement.{statement}
+use Rattle.weld.proofs.solve_weld_joint.Tie as tie
+
+returns : tie.Need-returns
+returns c =
+    let args = c .before .before .args in
+    rw (solve-refused (args .joint) (args .context) (args .state-a) (args .state-b) (args .use-bias) (not-weld (args .joint .«union_») (c .before .match .keys2)), ← (c .velocities-of .ensures))
+
+returns-2 : tie.Need-returns-2
+unfolding solveWeldJoint solveWeldUnion
+returns-2 c = rw (c .before .before .before .before .before .u .given .1, ← (c .before .before .solve-weld .ensures))
+
+pub solve-weld-joint-spec : {M : Type 1} → statement M
+solve-weld-joint-spec = tie.close (tie.spec (λ c. search needs) (λ c κs. tt) returns (λ c κs. tt) returns-2)

@@ -1,0 +1,201 @@
+-- What holds of the weld joint's stages, for all inputs. Assumes nothing.
+use mathlib.Core.Path.{_≡_, refl, ap, subst}
+use mathlib.Core.Bool.{Bool, true, false, cond}
+use Prim.Native.Nat.{ℕ}
+use lib.Dec.{T}
+use lib.IntN.{ℤ}
+use Rattle.math_functions.specs.declared.types.Vec3.{Vec3}
+use Rattle.solver.specs.declared.StepContext.{StepContext}
+use Rattle.records.specs.declared.body.BodyState.{BodyState}
+use Rattle.records.specs.Body.{withFlags, withDeltaPosition}
+use Rattle.records.specs.declared.body.BodyRecord.{BodyRecord}
+use Rattle.records.specs.declared.joint.WeldJoint.{WeldJoint}
+use Rattle.records.specs.declared.joint.JointBase.{JointBase}
+use Rattle.records.specs.declared.joint.JointSim.{JointSim}
+use Rattle.records.specs.declared.joint.JointUnion.{JointUnion}
+use Rattle.records.specs.declared.joint.JointUnion.the-variants.{Revolute, Spherical, Weld, Other}
+use Rattle.constraint.specs.Velocity.{velocitiesOf}
+use Rattle.constraint.specs.Answer.{notPrepared, notWarmStarted, notSolved}
+use Rattle.weld.specs.Weld.{withImpulses, weldSolved, isWeld, warmStartWeld, solveAngular, solvePoint, solveWeld, prepareWeldUnion, prepareWeldJoint, warmStartWeldUnion, warmStartWeldJoint, solveWeldUnion, solveWeldJoint}
+
+-- the joint with other indices
+abbrev pub withIndices : WeldJoint → ℤ → ℤ → WeldJoint
+withIndices j indexA indexB =
+    record {
+      «linear_hertz» = j .«linear_hertz»;
+      «linear_damping_ratio» = j .«linear_damping_ratio»;
+      «angular_hertz» = j .«angular_hertz»;
+      «angular_damping_ratio» = j .«angular_damping_ratio»;
+      «linear_spring» = j .«linear_spring»;
+      «angular_spring» = j .«angular_spring»;
+      «linear_impulse» = j .«linear_impulse»;
+      «angular_impulse» = j .«angular_impulse»;
+      «index_a» = indexA;
+      «index_b» = indexB;
+      «frame_a» = j .«frame_a»;
+      «frame_b» = j .«frame_b»;
+      «delta_center» = j .«delta_center»;
+      «angular_mass» = j .«angular_mass»;
+    }
+
+-- ---- the stages by value
+
+-- a solve changes `linear_impulse` and `angular_impulse`, and no other field of the joint
+pub solve-keeps : (base : JointBase) (j : WeldJoint) (a b : BodyState) (useBias : Bool)
+    → let next = solveWeld base j a b useBias .joint in next ≡ withImpulses j (next .«linear_impulse») (next .«angular_impulse»)
+unfolding solveWeld
+solve-keeps base j a b useBias = refl
+
+-- the indices are handed on unread
+pub solve-indices : (base : JointBase) (j : WeldJoint) (a b : BodyState) (useBias : Bool) (x y : ℤ)
+    → let s = solveWeld base j a b useBias in solveWeld base (withIndices j x y) a b useBias ≡ weldSolved (withIndices (s .joint) x y) (s .velocities)
+unfolding solveWeld solveAngular solvePoint
+solve-indices base j a b useBias x y = refl
+
+pub warm-start-indices : (base : JointBase) (j : WeldJoint) (a b : BodyState) (x y : ℤ) → warmStartWeld base (withIndices j x y) a b ≡ warmStartWeld base j a b
+unfolding warmStartWeld
+warm-start-indices base j a b x y = refl
+
+-- of a state its velocities, delta position and delta rotation are read, and not its flags
+pub solve-flags : (base : JointBase) (j : WeldJoint) (a b : BodyState) (useBias : Bool) (x y : ℕ)
+    → solveWeld base j (withFlags a x) (withFlags b y) useBias ≡ solveWeld base j a b useBias
+unfolding solveWeld solveAngular solvePoint velocitiesOf
+solve-flags base j a b useBias x y = refl
+
+pub warm-start-flags : (base : JointBase) (j : WeldJoint) (a b : BodyState) (x y : ℕ) → warmStartWeld base j (withFlags a x) (withFlags b y) ≡ warmStartWeld base j a b
+unfolding warmStartWeld velocitiesOf
+warm-start-flags base j a b x y = refl
+
+-- a warm start does not read the delta position either
+pub warm-start-delta-position : (base : JointBase) (j : WeldJoint) (a b : BodyState) (p q : Vec3)
+    → warmStartWeld base j (withDeltaPosition a p) (withDeltaPosition b q) ≡ warmStartWeld base j a b
+unfolding warmStartWeld velocitiesOf
+warm-start-delta-position base j a b p q = refl
+
+-- ---- the stages over a joint of any kind
+
+-- of a context prepare reads h and enable_warm_starting, and a solve nothing
+pub prepare-context : (sim : JointSim) (c d : StepContext) (bodyA bodyB : BodyRecord)
+    → c .h ≡ d .h → c .«enable_warm_starting» ≡ d .«enable_warm_starting» → prepareWeldJoint sim c bodyA bodyB ≡ prepareWeldJoint sim d bodyA bodyB
+unfolding prepareWeldJoint
+prepare-context sim c d bodyA bodyB same-h same-warm = rw (same-h, same-warm)
+
+pub solve-context : (sim : JointSim) (c d : StepContext) (a b : BodyState) (useBias : Bool) → solveWeldJoint sim c a b useBias ≡ solveWeldJoint sim d a b useBias
+unfolding solveWeldJoint
+solve-context sim c d a b useBias = refl
+
+true-is-not-false : true ≡ false → ⊥
+true-is-not-false e = subst T e tt
+
+module _ (sim : JointSim) (c : StepContext) (bodyA bodyB : BodyRecord) where
+  -- the number is 1 exactly where the case is another
+  pub prepare-number : prepareWeldJoint sim c bodyA bodyB .number ≡ cond (isWeld (sim .«union_»)) 0 1
+  unfolding prepareWeldJoint prepareWeldUnion
+  prepare-number = go (sim .«union_»)
+    where
+      go : (u : JointUnion) → prepareWeldUnion u sim (c .h) (c .«enable_warm_starting») bodyA bodyB .number ≡ cond (isWeld u) 0 1
+      go (Weld j) = refl
+      go (Revolute j) = refl
+      go (Spherical j) = refl
+      go Other = refl
+
+  -- and then the joint is as it was
+  pub prepare-refused : isWeld (sim .«union_») ≡ false → prepareWeldJoint sim c bodyA bodyB ≡ notPrepared sim
+  unfolding prepareWeldJoint prepareWeldUnion
+  prepare-refused = go (sim .«union_»)
+    where
+      go : (u : JointUnion) → isWeld u ≡ false → prepareWeldUnion u sim (c .h) (c .«enable_warm_starting») bodyA bodyB ≡ notPrepared sim
+      go (Weld j) e = absurd (true-is-not-false e)
+      go (Revolute j) e = refl
+      go (Spherical j) e = refl
+      go Other e = refl
+
+  -- a weld joint stays one, and no other becomes one (another case stays itself, by `prepare-refused`)
+  pub prepare-case : isWeld (prepareWeldJoint sim c bodyA bodyB .joint .«union_») ≡ isWeld (sim .«union_»)
+  unfolding prepareWeldJoint prepareWeldUnion
+  prepare-case = go (sim .«union_») refl
+    where
+      go : (u : JointUnion) → sim .«union_» ≡ u → isWeld (prepareWeldUnion u sim (c .h) (c .«enable_warm_starting») bodyA bodyB .joint .«union_») ≡ isWeld u
+      go (Weld j) e = refl
+      go (Revolute j) e = ap isWeld e
+      go (Spherical j) e = ap isWeld e
+      go Other e = ap isWeld e
+
+module _ (sim : JointSim) (a b : BodyState) where
+  -- a warm start changes no field of the joint, so base and case are as they were
+  pub warm-start-joint : warmStartWeldJoint sim a b .joint ≡ sim
+  unfolding warmStartWeldJoint warmStartWeldUnion
+  warm-start-joint = go (sim .«union_»)
+    where
+      go : (u : JointUnion) → warmStartWeldUnion u sim a b .joint ≡ sim
+      go (Weld j) = refl
+      go (Revolute j) = refl
+      go (Spherical j) = refl
+      go Other = refl
+
+  -- the number is 1 exactly where the case is another
+  pub warm-start-number : warmStartWeldJoint sim a b .number ≡ cond (isWeld (sim .«union_»)) 0 1
+  unfolding warmStartWeldJoint warmStartWeldUnion
+  warm-start-number = go (sim .«union_»)
+    where
+      go : (u : JointUnion) → warmStartWeldUnion u sim a b .number ≡ cond (isWeld u) 0 1
+      go (Weld j) = refl
+      go (Revolute j) = refl
+      go (Spherical j) = refl
+      go Other = refl
+
+  -- and then joint and velocities are as they were
+  pub warm-start-refused : isWeld (sim .«union_») ≡ false → warmStartWeldJoint sim a b ≡ notWarmStarted sim a b
+  unfolding warmStartWeldJoint warmStartWeldUnion
+  warm-start-refused = go (sim .«union_»)
+    where
+      go : (u : JointUnion) → isWeld u ≡ false → warmStartWeldUnion u sim a b ≡ notWarmStarted sim a b
+      go (Weld j) e = absurd (true-is-not-false e)
+      go (Revolute j) e = refl
+      go (Spherical j) e = refl
+      go Other e = refl
+
+module _ (sim : JointSim) (c : StepContext) (a b : BodyState) (useBias : Bool) where
+  -- a solve changes nothing of the joint but the weld record
+  pub solve-base : solveWeldJoint sim c a b useBias .joint .base ≡ sim .base
+  unfolding solveWeldJoint solveWeldUnion
+  solve-base = go (sim .«union_»)
+    where
+      go : (u : JointUnion) → solveWeldUnion u sim a b useBias .joint .base ≡ sim .base
+      go (Weld j) = refl
+      go (Revolute j) = refl
+      go (Spherical j) = refl
+      go Other = refl
+
+  -- a weld joint stays one, and no other becomes one (another case stays itself, by `solve-refused`)
+  pub solve-case : isWeld (solveWeldJoint sim c a b useBias .joint .«union_») ≡ isWeld (sim .«union_»)
+  unfolding solveWeldJoint solveWeldUnion
+  solve-case = go (sim .«union_») refl
+    where
+      go : (u : JointUnion) → sim .«union_» ≡ u → isWeld (solveWeldUnion u sim a b useBias .joint .«union_») ≡ isWeld u
+      go (Weld j) e = refl
+      go (Revolute j) e = ap isWeld e
+      go (Spherical j) e = ap isWeld e
+      go Other e = ap isWeld e
+
+  -- the number is 1 exactly where the case is another
+  pub solve-number : solveWeldJoint sim c a b useBias .number ≡ cond (isWeld (sim .«union_»)) 0 1
+  unfolding solveWeldJoint solveWeldUnion
+  solve-number = go (sim .«union_»)
+    where
+      go : (u : JointUnion) → solveWeldUnion u sim a b useBias .number ≡ cond (isWeld u) 0 1
+      go (Weld j) = refl
+      go (Revolute j) = refl
+      go (Spherical j) = refl
+      go Other = refl
+
+  -- and then joint and velocities are as they were
+  pub solve-refused : isWeld (sim .«union_») ≡ false → solveWeldJoint sim c a b useBias ≡ notSolved sim a b
+  unfolding solveWeldJoint solveWeldUnion
+  solve-refused = go (sim .«union_»)
+    where
+      go : (u : JointUnion) → isWeld u ≡ false → solveWeldUnion u sim a b useBias ≡ notSolved sim a b
+      go (Weld j) e = absurd (true-is-not-false e)
+      go (Revolute j) e = refl
+      go (Spherical j) e = refl
+      go Other e = refl

@@ -1,0 +1,2 @@
+pub mod Weld
+pub mod Facts

@@ -1,0 +1,113 @@
+// The weld joint: a rigid connection (optionally softened by linear/angular springs) that locks the
+// relative position and orientation of two frames. Its three stages, over a joint of any kind.
+ghost use mathlib.Core.Path.{_≡_};
+ghost use Rattle.weld.specs.Weld as D;
+use crate::stages::prepare_weld;
+use crate::stages::solve_weld;
+use crate::stages::warm_start_weld;
+use constraint::answer::Prepared;
+use constraint::answer::Solved;
+use constraint::answer::WRONG_KIND;
+use constraint::answer::WarmStarted;
+use constraint::velocity::velocities_of;
+use records::body::BodyRecord;
+use records::body::BodyState;
+use records::joint::JointSim;
+use records::joint::JointUnion;
+use solver::StepContext;
+
+pub mod rows;
+pub mod stages;
+
+// Prepare; a joint that is no weld joint is refused.
+pub fn prepare_weld_joint(
+    joint: JointSim,
+    context: StepContext,
+    body_a: BodyRecord,
+    body_b: BodyRecord,
+) -> Prepared
+    ensures { λ r. ⌜ r ≡ D.prepareWeldJoint joint context «body_a» «body_b» ⌝ }
+{
+    let u = joint.union_;
+    let JointUnion::Weld(k) = u else {
+        return Prepared {
+            number: WRONG_KIND,
+            place: 0,
+            joint,
+        };
+    };
+    let p = prepare_weld(
+        joint.base,
+        k,
+        context.h,
+        context.enable_warm_starting,
+        body_a,
+        body_b,
+    );
+    let base = p.base;
+    let weld = p.joint;
+    Prepared {
+        number: 0,
+        place: 0,
+        joint: JointSim {
+            base,
+            union_: JointUnion::Weld(weld),
+        },
+    }
+}
+
+// Warm start; a joint that is no weld joint is refused.
+pub fn warm_start_weld_joint(joint: JointSim, state_a: BodyState, state_b: BodyState) -> WarmStarted
+    ensures { λ r. ⌜ r ≡ D.warmStartWeldJoint joint «state_a» «state_b» ⌝ }
+{
+    let u = joint.union_;
+    let JointUnion::Weld(k) = u else {
+        return WarmStarted {
+            number: WRONG_KIND,
+            place: 0,
+            joint,
+            velocities: velocities_of(state_a, state_b),
+        };
+    };
+    let velocities = warm_start_weld(joint.base, k, state_a, state_b);
+    WarmStarted {
+        number: 0,
+        place: 0,
+        joint,
+        velocities,
+    }
+}
+
+// Solve; a joint that is no weld joint is refused. `context` is unused, as in the Rust.
+pub fn solve_weld_joint(
+    joint: JointSim,
+    context: StepContext,
+    state_a: BodyState,
+    state_b: BodyState,
+    use_bias: bool,
+) -> Solved
+    ensures { λ r. ⌜ r ≡ D.solveWeldJoint joint context «state_a» «state_b» «use_bias» ⌝ }
+{
+    let u = joint.union_;
+    let JointUnion::Weld(k) = u else {
+        return Solved {
+            number: WRONG_KIND,
+            place: 0,
+            joint,
+            velocities: velocities_of(state_a, state_b),
+        };
+    };
+    let base = joint.base;
+    let s = solve_weld(base, k, state_a, state_b, use_bias);
+    let weld = s.joint;
+    let velocities = s.velocities;
+    Solved {
+        number: 0,
+        place: 0,
+        joint: JointSim {
+            base,
+            union_: JointUnion::Weld(weld),
+        },
+        velocities,
+    }
+}

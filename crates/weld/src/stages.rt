@@ -1,0 +1,194 @@
+// The stages of the weld joint by value: prepare, warm start, and solve, which works the rows.
+ghost use mathlib.Core.Path.{_≡_};
+ghost use Rattle.weld.specs.Weld as D;
+use crate::rows::point_row;
+use crate::rows::weld_angular_row;
+use constraint::angular::Row3;
+use constraint::prepare::awake_index;
+use constraint::prepare::prepare_base;
+use constraint::prepare::prepare_frame;
+use constraint::rotation::flipped_relative_rotation;
+use constraint::velocity::InvMasses;
+use constraint::velocity::Velocities;
+use constraint::velocity::apply_warm;
+use constraint::velocity::inv_masses_of;
+use constraint::velocity::velocities_of;
+use math_functions::matrix::add_mm;
+use math_functions::matrix::invert_matrix;
+use math_functions::quat::rotate_vector;
+use math_functions::transform::sub_pos;
+use math_functions::types::VEC3_ZERO;
+use records::body::BodyRecord;
+use records::body::BodyState;
+use records::joint::JointBase;
+use records::joint::WeldJoint;
+use solver::Softness;
+use solver::make_soft;
+
+pub struct WeldPrepared {
+    pub base: JointBase,
+    pub joint: WeldJoint,
+}
+
+pub struct WeldSolved {
+    pub joint: WeldJoint,
+    pub velocities: Velocities,
+}
+
+// The softness of a row: the joint's own where the row's hertz is zero.
+pub fn row_spring(hertz: f32, damping_ratio: f32, h: f32, constraint_softness: Softness) -> Softness
+    ensures { λ r. ⌜ r ≡ D.rowSpring hertz «damping_ratio» h «constraint_softness» ⌝ }
+{
+    if hertz == 0.0 {
+        constraint_softness
+    } else {
+        make_soft(hertz, damping_ratio, h)
+    }
+}
+
+// The impulses stay only for a warm start.
+pub fn keep_impulses(joint: WeldJoint, enable_warm_starting: bool) -> WeldJoint
+    ensures { λ r. ⌜ r ≡ D.keepImpulses joint «enable_warm_starting» ⌝ }
+{
+    if !enable_warm_starting {
+        let zero = VEC3_ZERO;
+        let mut out = joint;
+        out.linear_impulse = zero;
+        out.angular_impulse = zero;
+        return out;
+    }
+    joint
+}
+
+pub fn prepare_weld(
+    base: JointBase,
+    joint: WeldJoint,
+    h: f32,
+    enable_warm_starting: bool,
+    body_a: BodyRecord,
+    body_b: BodyRecord,
+) -> WeldPrepared
+    ensures { λ r. ⌜ r ≡ D.prepareWeld base joint h «enable_warm_starting» «body_a» «body_b» ⌝ }
+{
+    let softness = base.constraint_softness;
+    let inv_inertia_sum = add_mm(body_a.inv_inertia_world, body_b.inv_inertia_world);
+
+    let mut out = joint;
+    out.index_a = awake_index(body_a);
+    out.index_b = awake_index(body_b);
+    out.frame_a = prepare_frame(body_a, base.local_frame_a);
+    out.frame_b = prepare_frame(body_b, base.local_frame_b);
+    out.delta_center = sub_pos(body_b.center, body_a.center);
+    out.angular_mass = invert_matrix(inv_inertia_sum);
+    out.linear_spring = row_spring(joint.linear_hertz, joint.linear_damping_ratio, h, softness);
+    out.angular_spring = row_spring(
+        joint.angular_hertz,
+        joint.angular_damping_ratio,
+        h,
+        softness,
+    );
+    WeldPrepared {
+        base: prepare_base(base, body_a, body_b),
+        joint: keep_impulses(out, enable_warm_starting),
+    }
+}
+
+pub fn warm_start_weld(
+    base: JointBase,
+    joint: WeldJoint,
+    state_a: BodyState,
+    state_b: BodyState,
+) -> Velocities
+    ensures { λ r. ⌜ r ≡ D.warmStartWeld base joint «state_a» «state_b» ⌝ }
+{
+    let m = inv_masses_of(base);
+    let v = velocities_of(state_a, state_b);
+    let r_a = rotate_vector(state_a.delta_rotation, joint.frame_a.p);
+    let r_b = rotate_vector(state_b.delta_rotation, joint.frame_b.p);
+    apply_warm(m, r_a, r_b, joint.linear_impulse, joint.angular_impulse, v)
+}
+
+// The angular row at the fields of the joint and the states.
+pub fn solve_angular(
+    fixed_rotation: bool,
+    joint: WeldJoint,
+    state_a: BodyState,
+    state_b: BodyState,
+    use_bias: bool,
+    m: InvMasses,
+    v: Velocities,
+) -> Row3
+    ensures { λ r. ⌜ r ≡ D.solveAngular «fixed_rotation» joint «state_a» «state_b» «use_bias» m v ⌝ }
+{
+    let rotation = flipped_relative_rotation(
+        state_a.delta_rotation,
+        joint.frame_a.q,
+        state_b.delta_rotation,
+        joint.frame_b.q,
+    );
+    weld_angular_row(
+        !fixed_rotation,
+        rotation,
+        use_bias,
+        joint.angular_hertz,
+        joint.angular_spring,
+        joint.angular_mass,
+        joint.angular_impulse,
+        m,
+        v,
+    )
+}
+
+// The point row at the fields of the joint and the states.
+pub fn solve_point(
+    joint: WeldJoint,
+    state_a: BodyState,
+    state_b: BodyState,
+    use_bias: bool,
+    m: InvMasses,
+    v: Velocities,
+) -> Row3
+    ensures { λ r. ⌜ r ≡ D.solvePoint joint «state_a» «state_b» «use_bias» m v ⌝ }
+{
+    let r_a = rotate_vector(state_a.delta_rotation, joint.frame_a.p);
+    let r_b = rotate_vector(state_b.delta_rotation, joint.frame_b.p);
+    point_row(
+        use_bias,
+        joint.linear_hertz,
+        joint.linear_spring,
+        r_a,
+        r_b,
+        state_a.delta_position,
+        state_b.delta_position,
+        joint.delta_center,
+        joint.linear_impulse,
+        m,
+        v,
+    )
+}
+
+pub fn solve_weld(
+    base: JointBase,
+    joint: WeldJoint,
+    state_a: BodyState,
+    state_b: BodyState,
+    use_bias: bool,
+) -> WeldSolved
+    ensures { λ r. ⌜ r ≡ D.solveWeld base joint «state_a» «state_b» «use_bias» ⌝ }
+{
+    let m = inv_masses_of(base);
+    let v = velocities_of(state_a, state_b);
+    let angular = solve_angular(base.fixed_rotation, joint, state_a, state_b, use_bias, m, v);
+    let point = solve_point(joint, state_a, state_b, use_bias, m, angular.velocities);
+
+    let linear_impulse = point.impulse;
+    let angular_impulse = angular.impulse;
+    let velocities = point.velocities;
+    let mut out = joint;
+    out.linear_impulse = linear_impulse;
+    out.angular_impulse = angular_impulse;
+    WeldSolved {
+        joint: out,
+        velocities,
+    }
+}

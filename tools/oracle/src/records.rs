@@ -1,0 +1,278 @@
+//! The records that the stages of the joints take, as words: joints, steps, bodies, states.
+
+use crate::body::{Body, BodySim, BodyState};
+use crate::joint::{JointSim, JointType, JointUnion, RevoluteJoint, SphericalJoint, WeldJoint};
+use crate::math_functions::{Matrix3, Pos, Quat, Transform, Vec2, Vec3, TRANSFORM_IDENTITY};
+use crate::solver::{Softness, StepContext};
+use crate::words::{record, Words};
+use crate::world::World;
+
+/// The kinds of joints whose stages are asked.
+#[derive(Clone, Copy, PartialEq)]
+pub enum Kind {
+    Revolute,
+    Spherical,
+    Weld,
+}
+
+/// What prepare reads of a body: of `Body` the set and the place in it, of `BodySim` the rest.
+#[derive(Clone, Copy)]
+pub struct BodyRecord {
+    pub set_index: i32,
+    pub local_index: i32,
+    pub inv_mass: f32,
+    pub inv_inertia_world: Matrix3,
+    /// `q` of its transform.
+    pub rotation: Quat,
+    pub center: Pos,
+    pub local_center: Vec3,
+}
+
+record!(Transform { p: Vec3, q: Quat });
+record!(RevoluteJoint {
+    linear_impulse: Vec3,
+    perp_impulse: Vec2,
+    spring_impulse: f32,
+    motor_impulse: f32,
+    lower_impulse: f32,
+    upper_impulse: f32,
+    hertz: f32,
+    damping_ratio: f32,
+    max_motor_torque: f32,
+    motor_speed: f32,
+    target_angle: f32,
+    lower_angle: f32,
+    upper_angle: f32,
+    index_a: i32,
+    index_b: i32,
+    frame_a: Transform,
+    frame_b: Transform,
+    rotation_axis_z: Vec3,
+    perp_axis_x: Vec3,
+    perp_axis_y: Vec3,
+    delta_center: Vec3,
+    delta_angle: f32,
+    axial_mass: f32,
+    spring_softness: Softness,
+    enable_spring: bool,
+    enable_motor: bool,
+    enable_limit: bool
+});
+record!(SphericalJoint {
+    linear_impulse: Vec3,
+    spring_impulse: Vec3,
+    motor_impulse: Vec3,
+    lower_twist_impulse: f32,
+    upper_twist_impulse: f32,
+    swing_impulse: f32,
+    hertz: f32,
+    damping_ratio: f32,
+    max_motor_torque: f32,
+    motor_velocity: Vec3,
+    lower_twist_angle: f32,
+    upper_twist_angle: f32,
+    cone_angle: f32,
+    target_rotation: Quat,
+    index_a: i32,
+    index_b: i32,
+    frame_a: Transform,
+    frame_b: Transform,
+    delta_center: Vec3,
+    swing_axis: Vec3,
+    twist_jacobian: Vec3,
+    rotation_mass: Matrix3,
+    swing_mass: f32,
+    twist_mass: f32,
+    spring_softness: Softness,
+    enable_spring: bool,
+    enable_motor: bool,
+    enable_cone_limit: bool,
+    enable_twist_limit: bool
+});
+record!(WeldJoint {
+    linear_hertz: f32,
+    linear_damping_ratio: f32,
+    angular_hertz: f32,
+    angular_damping_ratio: f32,
+    linear_spring: Softness,
+    angular_spring: Softness,
+    linear_impulse: Vec3,
+    angular_impulse: Vec3,
+    index_a: i32,
+    index_b: i32,
+    frame_a: Transform,
+    frame_b: Transform,
+    delta_center: Vec3,
+    angular_mass: Matrix3
+});
+// The part that all kinds share. The record of the kind follows it.
+record!(JointSim {
+    joint_id: i32,
+    body_id_a: i32,
+    body_id_b: i32,
+    type_: JointType,
+    local_frame_a: Transform,
+    local_frame_b: Transform,
+    inv_mass_a: f32,
+    inv_mass_b: f32,
+    inv_i_a: Matrix3,
+    inv_i_b: Matrix3,
+    constraint_hertz: f32,
+    constraint_damping_ratio: f32,
+    constraint_softness: Softness,
+    force_threshold: f32,
+    torque_threshold: f32,
+    fixed_rotation: bool,
+    ..JointSim::default()
+});
+record!(StepContext {
+    dt: f32,
+    inv_dt: f32,
+    h: f32,
+    inv_h: f32,
+    sub_step_count: i32,
+    contact_softness: Softness,
+    static_softness: Softness,
+    restitution_threshold: f32,
+    max_linear_velocity: f32,
+    contact_speed: f32,
+    enable_warm_starting: bool
+});
+record!(BodyRecord {
+    set_index: i32,
+    local_index: i32,
+    inv_mass: f32,
+    inv_inertia_world: Matrix3,
+    rotation: Quat,
+    center: Pos,
+    local_center: Vec3
+});
+record!(BodyState {
+    linear_velocity: Vec3,
+    angular_velocity: Vec3,
+    delta_position: Vec3,
+    delta_rotation: Quat,
+    flags: u32
+});
+
+// The counts of README.md.
+const _: () = {
+    assert!(JointSim::COUNT == 46);
+    assert!(RevoluteJoint::COUNT == 52);
+    assert!(SphericalJoint::COUNT == 68);
+    assert!(WeldJoint::COUNT == 44);
+    assert!(StepContext::COUNT == 15);
+    assert!(BodyRecord::COUNT == 22);
+    assert!(BodyState::COUNT == 14);
+};
+
+/// The types of joints, each at its number.
+pub const JOINT_TYPES: [JointType; 9] = [
+    JointType::Parallel,
+    JointType::Distance,
+    JointType::Filter,
+    JointType::Motor,
+    JointType::Prismatic,
+    JointType::Revolute,
+    JointType::Spherical,
+    JointType::Weld,
+    JointType::Wheel,
+];
+
+impl Words for JointType {
+    const COUNT: usize = 1;
+
+    fn read(from: &mut &[u32]) -> JointType {
+        JOINT_TYPES[u32::read(from) as usize]
+    }
+
+    fn write(&self, to: &mut Vec<u32>) {
+        to.push(*self as u32);
+    }
+
+    fn visit_floats(&mut self, _: &mut dyn FnMut(&mut f32)) {}
+}
+
+/// Takes a joint of a kind off the front of `from`.
+pub fn read_joint(kind: Kind, from: &mut &[u32]) -> JointSim {
+    let mut joint = JointSim::read(from);
+    joint.union_ = match kind {
+        Kind::Revolute => JointUnion::Revolute(RevoluteJoint::read(from)),
+        Kind::Spherical => JointUnion::Spherical(SphericalJoint::read(from)),
+        Kind::Weld => JointUnion::Weld(WeldJoint::read(from)),
+    };
+    joint
+}
+
+/// Does the same with the record of a joint, whatever its kind.
+macro_rules! with_record {
+    ($union:expr, $record:ident => $body:expr) => {
+        match $union {
+            JointUnion::Revolute($record) => $body,
+            JointUnion::Spherical($record) => $body,
+            JointUnion::Weld($record) => $body,
+            _ => unreachable!("the joint is of no kind that is asked"),
+        }
+    };
+}
+
+/// Appends a joint, its record included, to `to`.
+pub fn write_joint(joint: &JointSim, to: &mut Vec<u32>) {
+    joint.write(to);
+    with_record!(&joint.union_, record => record.write(to));
+}
+
+/// Shows each float of a joint, its record included, to `visit`.
+pub fn visit_joint(joint: &mut JointSim, visit: &mut dyn FnMut(&mut f32)) {
+    joint.visit_floats(visit);
+    with_record!(&mut joint.union_, record => record.visit_floats(visit));
+}
+
+/// For each body the index of its state and its frame.
+pub fn sides(joint: &mut JointSim) -> [(&mut i32, &mut Transform); 2] {
+    with_record!(&mut joint.union_, record => [
+        (&mut record.index_a, &mut record.frame_a),
+        (&mut record.index_b, &mut record.frame_b),
+    ])
+}
+
+/// Do the ids of the joint, or the places of the bodies, lead to one body? Then both must have the
+/// same words.
+pub fn one_body(joint: &JointSim, [a, b]: &[BodyRecord; 2]) -> bool {
+    joint.body_id_a == joint.body_id_b
+        || (a.set_index, a.local_index) == (b.set_index, b.local_index)
+}
+
+/// A world in which the bodies of the joint are found.
+pub fn world(joint: &JointSim, bodies: &[BodyRecord; 2]) -> World {
+    let mut world = World::default();
+    for (id, body) in [joint.body_id_a, joint.body_id_b].into_iter().zip(bodies) {
+        *place(&mut world.bodies, id) = Body {
+            set_index: body.set_index,
+            local_index: body.local_index,
+            ..Body::default()
+        };
+        let set = place(&mut world.solver_sets, body.set_index);
+        *place(&mut set.body_sims, body.local_index) = BodySim {
+            transform: Transform {
+                q: body.rotation,
+                ..TRANSFORM_IDENTITY
+            },
+            center: body.center,
+            local_center: body.local_center,
+            inv_mass: body.inv_mass,
+            inv_inertia_world: body.inv_inertia_world,
+            ..BodySim::default()
+        };
+    }
+    world
+}
+
+/// The place of an index, made if there is none.
+fn place<T: Default>(items: &mut Vec<T>, index: i32) -> &mut T {
+    let index = usize::try_from(index).expect("the index is below zero");
+    if items.len() <= index {
+        items.resize_with(index + 1, T::default);
+    }
+    &mut items[index]
+}

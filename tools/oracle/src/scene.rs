@@ -1,0 +1,644 @@
+//! How the inputs of a stage are drawn: a step, two bodies, a joint between them, their states.
+
+use crate::body::{body_flags::DYNAMIC_FLAG, BodyState};
+use crate::cases::Random;
+use crate::core::NULL_INDEX;
+use crate::draw::{pattern, sound_of, tame};
+use crate::edges;
+use crate::joint::{JointSim, JointType, JointUnion, RevoluteJoint, SphericalJoint, WeldJoint};
+use crate::math_functions::*;
+use crate::records::{one_body, sides, visit_joint, BodyRecord, Kind, JOINT_TYPES};
+use crate::solver::{make_soft, Softness, StepContext};
+use crate::solver_set::AWAKE_SET;
+use crate::stages::{self, Stage};
+use crate::words::Words;
+
+/// Body ids and places in a set are below this, so that worlds stay small.
+const PLACES: u32 = 8;
+
+/// All that a stage of a joint can take.
+pub struct Scene {
+    pub kind: Kind,
+    pub joint: JointSim,
+    pub context: StepContext,
+    pub bodies: [BodyRecord; 2],
+    pub states: Vec<BodyState>,
+    pub use_bias: bool,
+}
+
+impl Scene {
+    /// The scene of a case, in one of several modes.
+    pub fn drawn(random: &mut Random, stage: Stage, kind: Kind) -> Scene {
+        let mut scene = Scene::tame(random, stage, kind);
+        match random.below(16) {
+            0..=7 => {}
+            8..=12 => {
+                let rate = 16 << random.below(4);
+                scene.change(random, rate, changed);
+            }
+            _ => {
+                let wild = choose(random, &WILD);
+                scene.change(random, 1, wild);
+                scene.change_integers(random, stage);
+            }
+        }
+        scene.settle();
+        scene
+    }
+
+    /// A scene such as the stages meet in use, with a few of the rare cases.
+    pub fn tame(random: &mut Random, stage: Stage, kind: Kind) -> Scene {
+        let context = context(random);
+        let (states, indices) = states(random);
+        let mut bodies = bodies(random, indices);
+        let mut joint = joint(random, kind, context.h);
+        hang(random, &mut joint, kind, &mut bodies);
+        let mut scene = Scene {
+            kind,
+            joint,
+            context,
+            bodies,
+            states,
+            use_bias: random.one_in(2),
+        };
+        if stage == Stage::Prepare {
+            scene.vary_bodies(random);
+        } else {
+            scene.settle();
+            scene.ready(random, indices);
+        }
+        if random.one_in(4) {
+            scene.vary_hertz(random);
+        }
+        scene.settle();
+        scene
+    }
+
+    /// Two bodies at one place are the same body.
+    fn settle(&mut self) {
+        if one_body(&self.joint, &self.bodies) {
+            self.bodies[1] = self.bodies[0];
+        }
+    }
+
+    /// Takes the bodies out of the order that the states ask for, and now and then brings the
+    /// determinant of their inertias to where prepare decides.
+    fn vary_bodies(&mut self, random: &mut Random) {
+        for body in &mut self.bodies {
+            body.local_index = random.below(PLACES) as i32;
+        }
+        if random.one_in(8) {
+            let target = choose(random, &edges::signed_targets().collect::<Vec<_>>());
+            let matrix = choose(random, &edges::with_determinant(target));
+            self.set_inertia(random, matrix);
+        } else if random.one_in(16) {
+            let matrix = choose(random, &edges::without_inverse());
+            self.set_inertia(random, matrix);
+        }
+    }
+
+    /// Gives the bodies inverse inertias of this sum.
+    pub fn set_inertia(&mut self, random: &mut Random, sum: Matrix3) {
+        let half = mul_sm(0.5, sum);
+        let [a, b] = choose(random, &[[sum, MAT3_ZERO], [MAT3_ZERO, sum], [half, half]]);
+        self.bodies[0].inv_inertia_world = a;
+        self.bodies[1].inv_inertia_world = b;
+    }
+
+    /// Brings the joint to where warm start and solve find it: prepared, the limits near. One in
+    /// four is not prepared: its frames, axes and masses do not fit the bodies.
+    fn ready(&mut self, random: &mut Random, indices: [i32; 2]) {
+        if !random.one_in(4) {
+            let context = StepContext {
+                enable_warm_starting: true,
+                ..self.context
+            };
+            stages::prepare(self.kind, &mut self.joint, &context, &self.bodies);
+        }
+        if random.one_in(12) {
+            self.joint.fixed_rotation = true;
+        } else if random.one_in(3) {
+            self.joint.fixed_rotation = false;
+        }
+        for ((place, _), index) in sides(&mut self.joint).into_iter().zip(indices) {
+            *place = index;
+        }
+        if !random.one_in(8) {
+            self.near_limits(random);
+        }
+    }
+
+    /// Sets the limits near to the angles, so that all branches of their rows are met.
+    fn near_limits(&mut self, random: &mut Random) {
+        let rotation = self.relative_rotation();
+        let (twist, swing) = (get_twist_angle(rotation), get_swing_angle(rotation));
+        match &mut self.joint.union_ {
+            JointUnion::Revolute(record) => {
+                record.lower_angle = twist - gap(random);
+                record.upper_angle = twist + gap(random);
+                record.target_angle = twist + gap(random);
+            }
+            JointUnion::Spherical(record) => {
+                record.lower_twist_angle = twist - gap(random);
+                record.upper_twist_angle = twist + gap(random);
+                record.cone_angle = swing + gap(random);
+                if random.one_in(2) {
+                    record.target_rotation = mul_quat(rotation, small_rotation(random));
+                }
+            }
+            _ => {}
+        }
+    }
+
+    /// The rotation of frame B as frame A sees it, the way solve computes it.
+    pub fn relative_rotation(&self) -> Quat {
+        let mut joint = self.joint;
+        let [a, b] = sides(&mut joint).map(|(index, frame)| {
+            let turned = match *index {
+                NULL_INDEX => QUAT_IDENTITY,
+                index => self.states[index as usize].delta_rotation,
+            };
+            mul_quat(turned, frame.q)
+        });
+        inv_mul_quat(a, b)
+    }
+
+    fn vary_hertz(&mut self, random: &mut Random) {
+        let hertz = [0; 2].map(|_| {
+            let below = -positive(random, 0, 5);
+            choose(random, &[0.0, -0.0, f32::NAN, below, f32::from_bits(1)])
+        });
+        self.set_hertz(hertz);
+    }
+
+    /// Sets the hertz of the record; a weld has two.
+    pub fn set_hertz(&mut self, hertz: [f32; 2]) {
+        match &mut self.joint.union_ {
+            JointUnion::Revolute(record) => record.hertz = hertz[0],
+            JointUnion::Spherical(record) => record.hertz = hertz[0],
+            JointUnion::Weld(record) => {
+                [record.linear_hertz, record.angular_hertz] = hertz;
+            }
+            _ => unreachable!(),
+        }
+    }
+
+    /// Changes one float in `rate`.
+    fn change(&mut self, random: &mut Random, rate: u32, change: Change) {
+        let mut visit = |x: &mut f32| {
+            if random.one_in(rate) {
+                *x = change(random, *x);
+            }
+        };
+        visit_joint(&mut self.joint, &mut visit);
+        self.context.visit_floats(&mut visit);
+        for body in &mut self.bodies {
+            body.visit_floats(&mut visit);
+        }
+        for state in &mut self.states {
+            state.visit_floats(&mut visit);
+        }
+    }
+
+    /// Makes the integers anything that the stage takes.
+    fn change_integers(&mut self, random: &mut Random, stage: Stage) {
+        self.joint.type_ = choose(random, &JOINT_TYPES);
+        self.context.sub_step_count = random.word() as i32;
+        if stage == Stage::Prepare {
+            for (index, _) in sides(&mut self.joint) {
+                *index = random.word() as i32;
+            }
+        } else {
+            self.joint.body_id_a = random.word() as i32;
+            self.joint.body_id_b = random.word() as i32;
+        }
+    }
+}
+
+/// What a float is changed to.
+type Change = fn(&mut Random, f32) -> f32;
+
+/// How the floats of a wild case are changed, all in one of these ways.
+const WILD: [Change; 6] = [patterns, bits, subnormal, simple, sized, changed];
+
+/// Each float in a way of its own.
+fn changed(random: &mut Random, x: f32) -> f32 {
+    let ways = [
+        patterns, bits, subnormal, simple, sized, negative, neighbour,
+    ];
+    choose(random, &ways)(random, x)
+}
+
+fn patterns(random: &mut Random, _: f32) -> f32 {
+    f32::from_bits(pattern(random))
+}
+
+fn bits(random: &mut Random, _: f32) -> f32 {
+    f32::from_bits(random.word())
+}
+
+fn subnormal(random: &mut Random, _: f32) -> f32 {
+    f32::from_bits(random.word() & 0x807f_ffff)
+}
+
+/// Numbers whose sums and products are exact, many of them zeros.
+fn simple(random: &mut Random, _: f32) -> f32 {
+    choose(random, &[0.0, -0.0, 1.0, -1.0, 0.5, -0.5, 2.0, -2.0])
+}
+
+fn sized(random: &mut Random, _: f32) -> f32 {
+    f32::from_bits(tame(random))
+}
+
+fn negative(_: &mut Random, x: f32) -> f32 {
+    -x
+}
+
+fn neighbour(random: &mut Random, x: f32) -> f32 {
+    let step = if random.one_in(2) { 1 } else { -1 };
+    f32::from_bits(x.to_bits().wrapping_add_signed(step))
+}
+
+fn choose<T: Copy>(random: &mut Random, from: &[T]) -> T {
+    from[random.below(from.len() as u32) as usize]
+}
+
+/// A number of either sign, of a size below a power of two with an exponent from `low` to `high`.
+fn number(random: &mut Random, low: i32, high: i32) -> f32 {
+    (random.power(low, high) * random.even()) as f32
+}
+
+/// As `number`, above zero.
+fn positive(random: &mut Random, low: i32, high: i32) -> f32 {
+    (random.power(low, high) * (1.5 + 0.5 * random.even())) as f32
+}
+
+/// A vector with components of like size.
+fn vector(random: &mut Random, low: i32, high: i32) -> Vec3 {
+    let size = random.power(low, high);
+    let [x, y, z] = [0; 3].map(|_| (size * random.even()) as f32);
+    Vec3 { x, y, z }
+}
+
+fn direction(random: &mut Random) -> Vec3 {
+    rotate_vector(sound_of(random), VEC3_AXIS_Z)
+}
+
+/// A rotation about `v`, by twice the angle whose tangent is its length.
+fn rotation(v: Vec3) -> Quat {
+    normalize_quat(Quat { v, s: 1.0 })
+}
+
+fn small_rotation(random: &mut Random) -> Quat {
+    rotation(vector(random, -12, -2))
+}
+
+fn context(random: &mut Random) -> StepContext {
+    let rates = [60.0, 90.0, 100.0, 120.0, 144.0, 180.0, 360.0, 480.0];
+    let rate = if random.one_in(2) {
+        240.0
+    } else {
+        choose(random, &rates)
+    };
+    let sub_step_count = 1 + random.below(8) as i32;
+    let h = 1.0 / rate;
+    let dt = sub_step_count as f32 * h;
+    let hertz = positive(random, 4, 6);
+    StepContext {
+        dt,
+        inv_dt: 1.0 / dt,
+        h,
+        inv_h: 1.0 / h,
+        sub_step_count,
+        contact_softness: make_soft(hertz, 10.0, h),
+        static_softness: make_soft(2.0 * hertz, 10.0, h),
+        restitution_threshold: 1.0,
+        max_linear_velocity: 400.0,
+        contact_speed: 3.0,
+        enable_warm_starting: random.one_in(2),
+    }
+}
+
+/// Up to three states, and the indices of two of them: mostly different ones, now and then one of
+/// both, or none.
+fn states(random: &mut Random) -> (Vec<BodyState>, [i32; 2]) {
+    let count = choose(random, &[0, 1, 1, 1, 2, 2, 2, 2, 2, 2, 3, 3]);
+    let mut index = || {
+        if count == 0 || random.one_in(6) {
+            NULL_INDEX
+        } else {
+            random.below(count) as i32
+        }
+    };
+    let [a, mut b] = [index(), index()];
+    if a == b && count > 0 && !random.one_in(3) {
+        b = if count == 1 && a == 0 {
+            NULL_INDEX
+        } else {
+            (a + 1) % count as i32
+        };
+    }
+    ((0..count).map(|_| state(random)).collect(), [a, b])
+}
+
+fn state(random: &mut Random) -> BodyState {
+    let mut velocity = || {
+        if random.one_in(16) {
+            VEC3_ZERO
+        } else {
+            vector(random, -4, 5)
+        }
+    };
+    BodyState {
+        linear_velocity: velocity(),
+        angular_velocity: velocity(),
+        delta_position: vector(random, -12, -3),
+        delta_rotation: match random.below(8) {
+            0 => QUAT_IDENTITY,
+            1 => sound_of(random),
+            _ => small_rotation(random),
+        },
+        flags: match random.below(8) {
+            0 => 0,
+            1 => random.word(),
+            2 => random.word() | DYNAMIC_FLAG,
+            _ => DYNAMIC_FLAG,
+        },
+    }
+}
+
+/// Two bodies, awake if they have a state. What has none is mostly static.
+fn bodies(random: &mut Random, indices: [i32; 2]) -> [BodyRecord; 2] {
+    let masses = masses(random);
+    [0, 1].map(|i| {
+        let asleep = indices[i] == NULL_INDEX;
+        let (inv_mass, inv_inertia_world) = if asleep && !random.one_in(4) {
+            (0.0, MAT3_ZERO)
+        } else {
+            masses[i]
+        };
+        BodyRecord {
+            set_index: if asleep {
+                choose(random, &[0, 0, 1, 3, 4])
+            } else {
+                AWAKE_SET
+            },
+            local_index: if asleep {
+                random.below(PLACES) as i32
+            } else {
+                indices[i]
+            },
+            inv_mass,
+            inv_inertia_world,
+            rotation: sound_of(random),
+            center: vector(random, -2, 7),
+            local_center: vector(random, -6, 0),
+        }
+    })
+}
+
+/// The inverse masses and inertias of two bodies. Now and then one of them, or both, does not move
+/// or does not turn.
+fn masses(random: &mut Random) -> [(f32, Matrix3); 2] {
+    let mut masses = [0; 2].map(|_| (positive(random, -6, 6), sound_of(random)));
+    let [a, b] = &mut masses;
+    match random.below(24) {
+        0 => *a = (0.0, MAT3_ZERO),
+        1 => *b = (0.0, MAT3_ZERO),
+        2 => [*a, *b] = [(0.0, MAT3_ZERO); 2],
+        3 => [a.1, b.1] = [MAT3_ZERO; 2],
+        4 => a.1 = MAT3_ZERO,
+        5 => [a.0, b.0] = [0.0; 2],
+        _ => {}
+    }
+    masses
+}
+
+/// A joint whose fields do not know of each other, nor of the bodies.
+fn joint(random: &mut Random, kind: Kind, h: f32) -> JointSim {
+    let body_id_a = random.below(PLACES);
+    let body_id_b = if random.one_in(16) {
+        body_id_a
+    } else {
+        (body_id_a + 1 + random.below(PLACES - 1)) % PLACES
+    };
+    let [(inv_mass_a, inv_i_a), (inv_mass_b, inv_i_b)] = masses(random);
+    let hertz = (135.0 + 105.0 * random.even()) as f32;
+    let damping_ratio = damping(random);
+    JointSim {
+        joint_id: random.word() as i32,
+        body_id_a: body_id_a as i32,
+        body_id_b: body_id_b as i32,
+        type_: match kind {
+            Kind::Revolute => JointType::Revolute,
+            Kind::Spherical => JointType::Spherical,
+            Kind::Weld => JointType::Weld,
+        },
+        local_frame_a: frame(random),
+        local_frame_b: frame(random),
+        inv_mass_a,
+        inv_mass_b,
+        inv_i_a,
+        inv_i_b,
+        constraint_hertz: hertz,
+        constraint_damping_ratio: damping_ratio,
+        constraint_softness: make_soft(hertz, damping_ratio, h),
+        force_threshold: positive(random, 0, 20),
+        torque_threshold: positive(random, 0, 20),
+        fixed_rotation: random.one_in(8),
+        union_: match kind {
+            Kind::Revolute => JointUnion::Revolute(revolute(random, h)),
+            Kind::Spherical => JointUnion::Spherical(spherical(random, h)),
+            Kind::Weld => JointUnion::Weld(weld(random, h)),
+        },
+    }
+}
+
+fn revolute(random: &mut Random, h: f32) -> RevoluteJoint {
+    let (hertz, damping_ratio, spring_softness) = spring(random, h);
+    RevoluteJoint {
+        linear_impulse: vector(random, -6, 4),
+        perp_impulse: sound_of(random),
+        spring_impulse: number(random, -6, 3),
+        motor_impulse: number(random, -6, 3),
+        lower_impulse: limit_impulse(random),
+        upper_impulse: limit_impulse(random),
+        hertz,
+        damping_ratio,
+        max_motor_torque: positive(random, -2, 12),
+        motor_speed: number(random, -2, 5),
+        target_angle: angle(random),
+        lower_angle: -angle(random).abs(),
+        upper_angle: angle(random).abs(),
+        index_a: number(random, 0, 4) as i32,
+        index_b: number(random, 0, 4) as i32,
+        frame_a: frame(random),
+        frame_b: frame(random),
+        rotation_axis_z: direction(random),
+        perp_axis_x: mul_sv(0.5, direction(random)),
+        perp_axis_y: mul_sv(0.5, direction(random)),
+        delta_center: vector(random, -2, 3),
+        delta_angle: angle(random),
+        axial_mass: positive(random, -7, 5),
+        spring_softness,
+        enable_spring: random.one_in(2),
+        enable_motor: random.one_in(2),
+        enable_limit: random.one_in(2),
+    }
+}
+
+fn spherical(random: &mut Random, h: f32) -> SphericalJoint {
+    let (hertz, damping_ratio, spring_softness) = spring(random, h);
+    SphericalJoint {
+        linear_impulse: vector(random, -6, 4),
+        spring_impulse: vector(random, -6, 3),
+        motor_impulse: vector(random, -6, 3),
+        lower_twist_impulse: limit_impulse(random),
+        upper_twist_impulse: limit_impulse(random),
+        swing_impulse: limit_impulse(random),
+        hertz,
+        damping_ratio,
+        max_motor_torque: positive(random, -2, 12),
+        motor_velocity: vector(random, -2, 5),
+        lower_twist_angle: -angle(random).abs(),
+        upper_twist_angle: angle(random).abs(),
+        cone_angle: 0.5 * angle(random).abs(),
+        target_rotation: sound_of(random),
+        index_a: number(random, 0, 4) as i32,
+        index_b: number(random, 0, 4) as i32,
+        frame_a: frame(random),
+        frame_b: frame(random),
+        delta_center: vector(random, -2, 3),
+        swing_axis: direction(random),
+        twist_jacobian: vector(random, -1, 2),
+        rotation_mass: sound_of(random),
+        swing_mass: positive(random, -7, 5),
+        twist_mass: positive(random, -7, 5),
+        spring_softness,
+        enable_spring: random.one_in(2),
+        enable_motor: random.one_in(2),
+        enable_cone_limit: random.one_in(2),
+        enable_twist_limit: random.one_in(2),
+    }
+}
+
+fn weld(random: &mut Random, h: f32) -> WeldJoint {
+    let (linear_hertz, linear_damping_ratio, linear_spring) = spring(random, h);
+    let (angular_hertz, angular_damping_ratio, angular_spring) = spring(random, h);
+    WeldJoint {
+        linear_hertz,
+        linear_damping_ratio,
+        angular_hertz,
+        angular_damping_ratio,
+        linear_spring,
+        angular_spring,
+        linear_impulse: vector(random, -6, 4),
+        angular_impulse: vector(random, -6, 3),
+        index_a: number(random, 0, 4) as i32,
+        index_b: number(random, 0, 4) as i32,
+        frame_a: frame(random),
+        frame_b: frame(random),
+        delta_center: vector(random, -2, 3),
+        angular_mass: sound_of(random),
+    }
+}
+
+/// Hertz, damping ratio and the softness that they make.
+fn spring(random: &mut Random, h: f32) -> (f32, f32, Softness) {
+    let hertz = if random.one_in(4) {
+        0.0
+    } else {
+        positive(random, 0, 5)
+    };
+    let damping_ratio = damping(random);
+    (hertz, damping_ratio, make_soft(hertz, damping_ratio, h))
+}
+
+fn damping(random: &mut Random) -> f32 {
+    let other = positive(random, -4, 4);
+    choose(random, &[0.0, 1.0, 2.0, 5.0, other, other])
+}
+
+fn limit_impulse(random: &mut Random) -> f32 {
+    if random.one_in(2) {
+        0.0
+    } else {
+        positive(random, -6, 3)
+    }
+}
+
+fn angle(random: &mut Random) -> f32 {
+    (f64::from(PI) * random.even()) as f32
+}
+
+fn frame(random: &mut Random) -> Transform {
+    Transform {
+        p: vector(random, -2, 2),
+        q: sound_of(random),
+    }
+}
+
+/// How far an angle is from a limit: none, or to either side.
+fn gap(random: &mut Random) -> f32 {
+    let size = positive(random, -10, 0);
+    choose(random, &[0.0, 0.0, size, size, size, -size, -size, -size])
+}
+
+/// Hangs body B on body A: the frames meet but for a small error, and are turned against each other
+/// as far as the kind lets them. Now and then their axes are the same or opposite to the bit.
+fn hang(random: &mut Random, joint: &mut JointSim, kind: Kind, bodies: &mut [BodyRecord; 2]) {
+    let [a, b] = bodies;
+    let [frame_a, frame_b] = [&mut joint.local_frame_a, &mut joint.local_frame_b];
+    let rotation = mul_quat(a.rotation, frame_a.q);
+    frame_b.q = inv_mul_quat(b.rotation, mul_quat(rotation, turned(random, kind)));
+    match random.below(16) {
+        0 => (b.rotation, frame_b.q) = (a.rotation, frame_a.q),
+        1 => {
+            [a.rotation, b.rotation, frame_a.q] = [QUAT_IDENTITY; 3];
+            let twist = twist(random);
+            frame_b.q = choose(random, &[HALF_TURN_X, HALF_TURN_Y, twist]);
+        }
+        _ => {}
+    }
+    if random.one_in(4) {
+        frame_b.q = negate_quat(frame_b.q);
+    }
+    let arm_a = rotate_vector(a.rotation, sub(frame_a.p, a.local_center));
+    let arm_b = rotate_vector(b.rotation, sub(frame_b.p, b.local_center));
+    let error = vector(random, -12, -3);
+    b.center = add(add(a.center, sub(arm_a, arm_b)), error);
+}
+
+pub const HALF_TURN_X: Quat = Quat {
+    v: VEC3_AXIS_X,
+    s: 0.0,
+};
+pub const HALF_TURN_Y: Quat = Quat {
+    v: VEC3_AXIS_Y,
+    s: 0.0,
+};
+
+/// The rotation of frame B as frame A sees it.
+fn turned(random: &mut Random, kind: Kind) -> Quat {
+    let twist = twist(random);
+    let swing = swing(random);
+    let small = small_rotation(random);
+    match (kind, random.below(4)) {
+        (_, 0) => sound_of(random),
+        (Kind::Revolute, _) => mul_quat(small, twist),
+        (Kind::Spherical, _) => mul_quat(swing, twist),
+        (Kind::Weld, _) => small,
+    }
+}
+
+/// A rotation about z.
+fn twist(random: &mut Random) -> Quat {
+    let z = number(random, -4, 4);
+    rotation(Vec3 { z, ..VEC3_ZERO })
+}
+
+/// A rotation about an axis across z.
+fn swing(random: &mut Random) -> Quat {
+    let axis = vector(random, -4, 3);
+    rotation(Vec3 { z: 0.0, ..axis })
+}

@@ -1,0 +1,147 @@
+//! Cases for the stages of the joints: prepare, warm start and solve of three kinds.
+
+use crate::body::BodyState;
+use crate::cases::{List, Random, Step};
+use crate::joint::revolute::*;
+use crate::joint::spherical::*;
+use crate::joint::weld::*;
+use crate::joint::JointSim;
+use crate::records::{self, read_joint, write_joint, BodyRecord, Kind};
+use crate::scene::Scene;
+use crate::solver::StepContext;
+use crate::stage_edges;
+use crate::words::Words;
+
+/// What is done with a joint in a step, in this order.
+#[derive(Clone, Copy, PartialEq)]
+pub enum Stage {
+    Prepare,
+    WarmStart,
+    Solve,
+}
+use Kind::*;
+use Stage::*;
+
+/// The functions: number, stage, kind of joint.
+const STAGES: [(u32, Stage, Kind); 9] = [
+    (0x80, Prepare, Revolute),
+    (0x81, Prepare, Spherical),
+    (0x82, Prepare, Weld),
+    (0x84, WarmStart, Revolute),
+    (0x85, WarmStart, Spherical),
+    (0x86, WarmStart, Weld),
+    (0x88, Solve, Revolute),
+    (0x89, Solve, Spherical),
+    (0x8a, Solve, Weld),
+];
+
+/// Prepares a joint between two bodies.
+pub fn prepare(kind: Kind, joint: &mut JointSim, context: &StepContext, bodies: &[BodyRecord; 2]) {
+    let prepare = match kind {
+        Revolute => prepare_revolute_joint,
+        Spherical => prepare_spherical_joint,
+        Weld => prepare_weld_joint,
+    };
+    prepare(&records::world(joint, bodies), joint, context);
+}
+
+fn warm_start(kind: Kind, joint: &mut JointSim, states: &mut [BodyState]) {
+    let warm_start = match kind {
+        Revolute => warm_start_revolute_joint,
+        Spherical => warm_start_spherical_joint,
+        Weld => warm_start_weld_joint,
+    };
+    warm_start(joint, states);
+}
+
+fn solve(
+    kind: Kind,
+    joint: &mut JointSim,
+    context: &StepContext,
+    use_bias: bool,
+    states: &mut [BodyState],
+) {
+    let solve = match kind {
+        Revolute => solve_revolute_joint,
+        Spherical => solve_spherical_joint,
+        Weld => solve_weld_joint,
+    };
+    solve(joint, context, states, use_bias);
+}
+
+/// The words that a stage takes of a scene.
+fn inputs(stage: Stage, scene: &Scene) -> Vec<u32> {
+    let mut words = Vec::new();
+    write_joint(&scene.joint, &mut words);
+    if stage != WarmStart {
+        scene.context.write(&mut words);
+    }
+    if stage == Prepare {
+        scene.bodies.iter().for_each(|body| body.write(&mut words));
+        return words;
+    }
+    if stage == Solve {
+        scene.use_bias.write(&mut words);
+    }
+    words.push(scene.states.len() as u32);
+    scene
+        .states
+        .iter()
+        .for_each(|state| state.write(&mut words));
+    words
+}
+
+/// Asks the Rust.
+fn answer(stage: Stage, kind: Kind, mut inputs: &[u32]) -> Vec<u32> {
+    let from = &mut inputs;
+    let mut joint = read_joint(kind, from);
+    let mut states = Vec::new();
+    match stage {
+        Prepare => {
+            let context = StepContext::read(from);
+            let bodies = [BodyRecord::read(from), BodyRecord::read(from)];
+            prepare(kind, &mut joint, &context, &bodies);
+        }
+        WarmStart => {
+            states = read_states(from);
+            warm_start(kind, &mut joint, &mut states);
+        }
+        Solve => {
+            let context = StepContext::read(from);
+            let use_bias = bool::read(from);
+            states = read_states(from);
+            solve(kind, &mut joint, &context, use_bias, &mut states);
+        }
+    }
+    assert!(from.is_empty(), "too many words");
+    let mut words = Vec::new();
+    write_joint(&joint, &mut words);
+    states.iter().for_each(|state| state.write(&mut words));
+    words
+}
+
+fn read_states(from: &mut &[u32]) -> Vec<BodyState> {
+    let count = u32::read(from);
+    (0..count).map(|_| BodyState::read(from)).collect()
+}
+
+/// Writes the case of a stage in a scene.
+pub fn case(stage: Stage, scene: &Scene, list: &mut List) -> Step {
+    let row = |(_, s, k): &&(u32, Stage, Kind)| (*s, *k) == (stage, scene.kind);
+    let (number, ..) = STAGES.iter().find(row).expect("no such stage");
+    let inputs = inputs(stage, scene);
+    let answer = answer(stage, scene.kind, &inputs);
+    list.case(*number, &inputs, &answer)
+}
+
+/// Writes the stage cases of a seed: a short fixed part that is the same for all seeds, then seeded
+/// cases without end.
+pub fn write(seed: u64, list: &mut List) -> Step {
+    stage_edges::write(list)?;
+    let mut random = Random::new(seed, 1);
+    loop {
+        for (_, stage, kind) in STAGES {
+            case(stage, &Scene::drawn(&mut random, stage, kind), list)?;
+        }
+    }
+}
