@@ -6,6 +6,7 @@ use crate::matrix;
 use crate::quat;
 use crate::scalar;
 use crate::soft;
+use crate::stages;
 use crate::transform;
 use crate::vector;
 use crate::words::plus;
@@ -33,6 +34,7 @@ fn agrees(f: u32, p: &[u8]) -> bool {
         5 => matrix::agrees(f, p),
         6 => transform::agrees(f, p),
         7 => soft::agrees(f, p),
+        8 => stages::agrees(f, p),
         _ => false,
     }
 }

@@ -1,11 +1,14 @@
 // Comparing values with the words of a case, bit for bit, where every NaN counts as the same.
 use crate::words::float_of;
+use crate::words::int;
 use crate::words::plus;
 use crate::words::word;
 use math_functions::types::Matrix3;
 use math_functions::types::Quat;
+use math_functions::types::Transform;
 use math_functions::types::Vec2;
 use math_functions::types::Vec3;
+use solver::Softness;
 
 // Whether bits is the pattern of x. Rattle gives no pattern of a NaN, so one is told by itself.
 fn same(x: f32, bits: u32) -> bool {
@@ -17,6 +20,24 @@ fn same(x: f32, bits: u32) -> bool {
 }
 
 // Whether the words from i on are those of a value: so for each type.
+pub fn same_word(p: &[u8], i: usize, x: u32) -> bool {
+    word(p, i) == x
+}
+
+pub fn same_int(p: &[u8], i: usize, x: i32) -> bool {
+    int(p, i) == x
+}
+
+// Whether the word at i is a switch's.
+pub fn is_switch(p: &[u8], i: usize) -> bool {
+    word(p, i) < 2
+}
+
+pub fn same_switch(p: &[u8], i: usize, is_on: bool) -> bool {
+    let x = if is_on { 1u32 } else { 0 };
+    word(p, i) == x
+}
+
 pub fn same_float(p: &[u8], i: usize, x: f32) -> bool {
     same(x, word(p, i))
 }
@@ -35,6 +56,16 @@ pub fn same_quat(p: &[u8], i: usize, q: Quat) -> bool {
 
 pub fn same_matrix3(p: &[u8], i: usize, m: Matrix3) -> bool {
     same_vec3(p, i, m.cx) & same_vec3(p, plus(i, 3), m.cy) & same_vec3(p, plus(i, 6), m.cz)
+}
+
+pub fn same_transform(p: &[u8], i: usize, t: Transform) -> bool {
+    same_vec3(p, i, t.p) & same_quat(p, plus(i, 3), t.q)
+}
+
+pub fn same_softness(p: &[u8], i: usize, s: Softness) -> bool {
+    same_float(p, i, s.bias_rate)
+        & same_float(p, plus(i, 1), s.mass_scale)
+        & same_float(p, plus(i, 2), s.impulse_scale)
 }
 
 // Whether a case has n words. Its bytes are whole words.
@@ -62,4 +93,8 @@ pub fn answers_quat(p: &[u8], n: usize, q: Quat) -> bool {
 
 pub fn answers_matrix3(p: &[u8], n: usize, m: Matrix3) -> bool {
     has_words(p, plus(n, 9)) & same_matrix3(p, n, m)
+}
+
+pub fn answers_softness(p: &[u8], n: usize, s: Softness) -> bool {
+    has_words(p, plus(n, 3)) & same_softness(p, n, s)
 }

@@ -1,14 +1,20 @@
-// Runs the test cases of standard input, and prints how many there are, and in how many of them the
-// library's answer is not the recorded one.
+// Runs the test cases of standard input, then those of each file that the arguments name, and prints
+// how many there are, and in how many of them the library's answer is not the recorded one.
 mod cases;
 mod compare;
 mod internal;
+mod joint_words;
 mod matrix;
 mod quat;
+mod record_words;
+mod revolute_words;
 mod scalar;
 mod soft;
+mod spherical_words;
+mod stages;
 mod transform;
 mod vector;
+mod weld_words;
 mod words;
 
 ghost use Prim.Native.Nat.{_≤_};
@@ -19,7 +25,7 @@ use libc::STDIN_FILENO;
 use libc::STDOUT_FILENO;
 use std::num::wrapping_add_u64;
 
-// How far the input has been run.
+// How many cases were run, and how far the input has been.
 struct State {
     run: u64,
     differing: u64,
@@ -86,12 +92,12 @@ fn run_block(buf: &mut [u8], s: State, end: usize) -> State
 }
 
 // Reads once, behind the bytes that were kept, and runs what is there.
-fn turn(buf: &mut [u8], s: State) -> State {
+fn turn(buf: &mut [u8], fd: i32, s: State) -> State {
     let kept = s.kept;
     if kept >= buf.len() {
         return ended(s, true);
     }
-    let got = libc::read(STDIN_FILENO, &mut buf[kept..]);
+    let got = libc::read(fd, &mut buf[kept..]);
     if got <= 0 {
         return ended(s, got < 0);
     }
@@ -99,27 +105,60 @@ fn turn(buf: &mut [u8], s: State) -> State {
     run_block(buf, s, end)
 }
 
-// A proved loop has to end, and nothing says that the input does. So the loop counts its turns
-// down, from a number that no run uses up.
-fn replay(buf: &mut [u8]) -> State {
-    let mut s = State {
-        run: 0,
-        differing: 0,
+// Before an input, with what the earlier ones came to.
+fn begun(run: u64, differing: u64) -> State {
+    State {
+        run,
+        differing,
         kept: 0,
         skip: 0,
         has_more: true,
-    };
+    }
+}
+
+// Runs one more input. A proved loop has to end, and nothing says that the input does. So the loop
+// counts its turns down, from a number that no run uses up.
+fn replay(buf: &mut [u8], fd: i32, before: State) -> State {
+    let mut s = begun(before.run, before.differing);
     let mut turns = u64::MAX;
     while turns > 0 && s.has_more {
-        s = turn(buf, s);
+        s = turn(buf, fd, s);
         turns -= 1;
+    }
+    s
+}
+
+// Runs the file that argument i names. One that cannot be opened counts as one that cannot be read.
+fn replay_file(buf: &mut [u8], i: usize, before: State) -> State {
+    let mut path = io::buffer();
+    let length = os::arg(i, &mut path);
+    if os::errno() != 0 {
+        return ended(before, true);
+    }
+    let fd = os::open_read(&path[..length]);
+    if fd < 0 {
+        return ended(before, true);
+    }
+    let s = replay(buf, fd, before);
+    libc::close(fd);
+    s
+}
+
+fn replay_files(buf: &mut [u8], before: State) -> State {
+    let mut s = before;
+    let count = os::arg_count();
+    let mut i = 1usize;
+    while i < count {
+        s = replay_file(buf, i, s);
+        i += 1;
     }
     s
 }
 
 fn main() {
     let mut buf = io::large_buffer();
-    let s = replay(&mut buf);
+    let read = replay(&mut buf, STDIN_FILENO, begun(0, 0));
+    let s = replay_files(&mut buf, read);
     io::print_decimal(STDOUT_FILENO, s.run);
     io::write_all(STDOUT_FILENO, b" ");
     io::print_decimal(STDOUT_FILENO, s.differing);

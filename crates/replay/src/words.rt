@@ -4,8 +4,10 @@
 use math_functions::matrix::Mat2;
 use math_functions::types::Matrix3;
 use math_functions::types::Quat;
+use math_functions::types::Transform;
 use math_functions::types::Vec2;
 use math_functions::types::Vec3;
+use solver::Softness;
 
 // A byte as a number: a callee that takes the byte asks no proof that it fits.
 fn wide(x: u8) -> u32 {
@@ -33,6 +35,24 @@ pub fn float_of(bits: u32) -> f32 {
         return 0.0 / 0.0;
     }
     f32::from_bits(bits)
+}
+
+// The integer of a pattern, two's complement: below 0 the bits are those of its complement, which is
+// at least 0, flipped.
+fn int_of(bits: u32) -> i32 {
+    if bits < 2147483648 {
+        return bits as i32;
+    }
+    !((4294967295 - bits) as i32)
+}
+
+pub fn int(p: &[u8], i: usize) -> i32 {
+    int_of(word(p, i))
+}
+
+// A switch that is on. That its word is 0 or 1 is told by comparing (compare.rt).
+pub fn switch(p: &[u8], i: usize) -> bool {
+    word(p, i) != 0
 }
 
 pub fn float(p: &[u8], i: usize) -> f32 {
@@ -73,5 +93,20 @@ pub fn matrix3(p: &[u8], i: usize) -> Matrix3 {
         cx: vec3(p, i),
         cy: vec3(p, plus(i, 3)),
         cz: vec3(p, plus(i, 6)),
+    }
+}
+
+pub fn transform(p: &[u8], i: usize) -> Transform {
+    Transform {
+        p: vec3(p, i),
+        q: quat(p, plus(i, 3)),
+    }
+}
+
+pub fn softness(p: &[u8], i: usize) -> Softness {
+    Softness {
+        bias_rate: float(p, i),
+        mass_scale: float(p, plus(i, 1)),
+        impulse_scale: float(p, plus(i, 2)),
     }
 }

@@ -1,2 +1,2 @@
--- What the proofs of the calls on a joint cite. Assumes nothing.
-mod OtherCase
+-- What the functions' proofs cite. Assumes nothing.
+mod Cases

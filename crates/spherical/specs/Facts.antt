@@ -1,6 +1,6 @@
 -- What holds of the spherical stages for all inputs: which impulses are never negative, which fields a solve may change, what a stage reads, and what a call on a
 -- joint leaves. Assumes nothing.
-use mathlib.Core.Path.{_≡_, refl}
+use mathlib.Core.Path.{_≡_, refl, ap}
 use mathlib.Core.Bool.{Bool, true, false, cond}
 use Prim.Native.Nat.{ℕ}
 use lib.Ieee.{Float}
@@ -21,9 +21,9 @@ use Rattle.constraint.specs.declared.velocity.Velocities.{Velocities}
 use Rattle.constraint.specs.declared.velocity.InvMasses.{InvMasses}
 use Rattle.constraint.specs.Velocity.{velocitiesOf}
 use Rattle.constraint.specs.Angular.{isWorked}
-use Rattle.constraint.specs.Answer.{jointSim, notPrepared, notWarmStarted, notSolved}
+use Rattle.constraint.specs.Answer.{notPrepared, notWarmStarted, notSolved}
 use Rattle.constraint.specs.Facts.{NonNegative, upperLimitRow-nonNegative, twist-lower-nonNegative, twist-upper-nonNegative}
-use Rattle.spherical.specs.Spherical.{withImpulses, coneRow, sphericalSolved, warmStartSpherical, solveSpherical, prepareSphericalUnion, prepareSphericalJoint, warmStartSphericalUnion, warmStartSphericalJoint, solveSphericalUnion, solveSphericalJoint}
+use Rattle.spherical.specs.Spherical.{withImpulses, coneRow, sphericalSolved, warmStartSpherical, solveSpherical, isSpherical, prepareSphericalUnion, prepareSphericalJoint, warmStartSphericalUnion, warmStartSphericalJoint, solveSphericalUnion, solveSphericalJoint}
 
 -- ---- limits
 
@@ -157,66 +157,41 @@ solve-context sim context other stateA stateB useBias same-h same-inv-h = rw (sa
 
 -- ---- a call on a joint
 
--- a number for each case of the union
-abbrev pub caseOf : JointUnion → ℕ
-caseOf (Revolute j) = 0
-caseOf (Spherical j) = 1
-caseOf (Weld j) = 2
-caseOf Other = 3
-
-abbrev pub isSpherical : JointUnion → Bool
-isSpherical (Revolute j) = false
-isSpherical (Spherical j) = true
-isSpherical (Weld j) = false
-isSpherical Other = false
-
--- what a call on `sim` answers, where it leaves `next`: number 1 exactly where the case is another, else 0; place 0; the case is kept
-pub record Answered (sim next : JointSim) (number place : ℕ) : Type 0 where
-  pub number-is : number ≡ cond (isSpherical (sim .«union_»)) 0 1
-  pub place-is : place ≡ 0
-  pub case-is : caseOf (next .«union_») ≡ caseOf (sim .«union_»)
-
 module _ (sim : JointSim) (context : StepContext) (bodyA bodyB : BodyRecord) where
-  pub prepare-answered :
-      let r = prepareSphericalJoint sim context bodyA bodyB in
-      Answered sim (r .joint) (r .number) (r .place)
+  -- the number is 1 exactly where the case is another
+  pub prepare-number : prepareSphericalJoint sim context bodyA bodyB .number ≡ cond (isSpherical (sim .«union_»)) 0 1
   unfolding prepareSphericalJoint prepareSphericalUnion
-  prepare-answered = go (sim .«union_»)
+  prepare-number = go (sim .«union_»)
     where
-      go : (u : JointUnion) →
-          let r = prepareSphericalUnion u (jointSim (sim .base) u) (context .h) (context .«enable_warm_starting») bodyA bodyB in
-          Answered (jointSim (sim .base) u) (r .joint) (r .number) (r .place)
-      go (Revolute j) = record { number-is = refl; place-is = refl; case-is = refl }
-      go (Spherical j) = record { number-is = refl; place-is = refl; case-is = refl }
-      go (Weld j) = record { number-is = refl; place-is = refl; case-is = refl }
-      go Other = record { number-is = refl; place-is = refl; case-is = refl }
+      go : (u : JointUnion) → prepareSphericalUnion u sim (context .h) (context .«enable_warm_starting») bodyA bodyB .number ≡ cond (isSpherical u) 0 1
+      go (Revolute j) = refl
+      go (Spherical j) = refl
+      go (Weld j) = refl
+      go Other = refl
 
-  -- a refusal leaves the joint as it was
+  -- and then the joint is as it was
   pub prepare-refused : isSpherical (sim .«union_») ≡ false → prepareSphericalJoint sim context bodyA bodyB ≡ notPrepared sim
   unfolding prepareSphericalJoint prepareSphericalUnion
   prepare-refused = go (sim .«union_»)
     where
       go : (u : JointUnion) → isSpherical u ≡ false → prepareSphericalUnion u sim (context .h) (context .«enable_warm_starting») bodyA bodyB ≡ notPrepared sim
-      go (Revolute j) other = refl
-      go (Spherical j) other = cc
-      go (Weld j) other = refl
-      go Other other = refl
+      go (Revolute j) e = refl
+      go (Spherical j) e = cc
+      go (Weld j) e = refl
+      go Other e = refl
+
+  -- a spherical joint stays one, and no other becomes one
+  pub prepare-case : isSpherical (prepareSphericalJoint sim context bodyA bodyB .joint .«union_») ≡ isSpherical (sim .«union_»)
+  unfolding prepareSphericalJoint prepareSphericalUnion
+  prepare-case = go (sim .«union_») refl
+    where
+      go : (u : JointUnion) → sim .«union_» ≡ u → isSpherical (prepareSphericalUnion u sim (context .h) (context .«enable_warm_starting») bodyA bodyB .joint .«union_») ≡ isSpherical u
+      go (Revolute j) e = ap isSpherical e
+      go (Spherical j) e = refl
+      go (Weld j) e = ap isSpherical e
+      go Other e = ap isSpherical e
 
 module _ (sim : JointSim) (stateA stateB : BodyState) where
-  pub warm-start-answered :
-      let r = warmStartSphericalJoint sim stateA stateB in
-      Answered sim (r .joint) (r .number) (r .place)
-  unfolding warmStartSphericalJoint warmStartSphericalUnion
-  warm-start-answered = go (sim .«union_»)
-    where
-      go : (u : JointUnion) →
-          let r = warmStartSphericalUnion u (jointSim (sim .base) u) stateA stateB in
-          Answered (jointSim (sim .base) u) (r .joint) (r .number) (r .place)
-      go (Revolute j) = record { number-is = refl; place-is = refl; case-is = refl }
-      go (Spherical j) = record { number-is = refl; place-is = refl; case-is = refl }
-      go (Weld j) = record { number-is = refl; place-is = refl; case-is = refl }
-      go Other = record { number-is = refl; place-is = refl; case-is = refl }
-
   -- a warm start changes no field of the joint
   pub warm-start-joint : warmStartSphericalJoint sim stateA stateB .joint ≡ sim
   unfolding warmStartSphericalJoint warmStartSphericalUnion
@@ -228,32 +203,30 @@ module _ (sim : JointSim) (stateA stateB : BodyState) where
       go (Weld j) = refl
       go Other = refl
 
-  -- a refusal leaves the joint and the velocities as they were
+  -- the number is 1 exactly where the case is another
+  pub warm-start-number : warmStartSphericalJoint sim stateA stateB .number ≡ cond (isSpherical (sim .«union_»)) 0 1
+  unfolding warmStartSphericalJoint warmStartSphericalUnion
+  warm-start-number = go (sim .«union_»)
+    where
+      go : (u : JointUnion) → warmStartSphericalUnion u sim stateA stateB .number ≡ cond (isSpherical u) 0 1
+      go (Revolute j) = refl
+      go (Spherical j) = refl
+      go (Weld j) = refl
+      go Other = refl
+
+  -- and then joint and velocities are as they were
   pub warm-start-refused : isSpherical (sim .«union_») ≡ false → warmStartSphericalJoint sim stateA stateB ≡ notWarmStarted sim stateA stateB
   unfolding warmStartSphericalJoint warmStartSphericalUnion
   warm-start-refused = go (sim .«union_»)
     where
       go : (u : JointUnion) → isSpherical u ≡ false → warmStartSphericalUnion u sim stateA stateB ≡ notWarmStarted sim stateA stateB
-      go (Revolute j) other = refl
-      go (Spherical j) other = cc
-      go (Weld j) other = refl
-      go Other other = refl
+      go (Revolute j) e = refl
+      go (Spherical j) e = cc
+      go (Weld j) e = refl
+      go Other e = refl
 
 module _ (sim : JointSim) (context : StepContext) (stateA stateB : BodyState) (useBias : Bool) where
-  pub solve-answered :
-      let r = solveSphericalJoint sim context stateA stateB useBias in
-      Answered sim (r .joint) (r .number) (r .place)
-  unfolding solveSphericalJoint solveSphericalUnion
-  solve-answered = go (sim .«union_»)
-    where
-      go : (u : JointUnion) →
-          let r = solveSphericalUnion u (jointSim (sim .base) u) (context .h) (context .«inv_h») stateA stateB useBias in
-          Answered (jointSim (sim .base) u) (r .joint) (r .number) (r .place)
-      go (Revolute j) = record { number-is = refl; place-is = refl; case-is = refl }
-      go (Spherical j) = record { number-is = refl; place-is = refl; case-is = refl }
-      go (Weld j) = record { number-is = refl; place-is = refl; case-is = refl }
-      go Other = record { number-is = refl; place-is = refl; case-is = refl }
-
+  -- a solve changes nothing of the joint but the spherical record
   pub solve-base : solveSphericalJoint sim context stateA stateB useBias .joint .base ≡ sim .base
   unfolding solveSphericalJoint solveSphericalUnion
   solve-base = go (sim .«union_»)
@@ -264,13 +237,35 @@ module _ (sim : JointSim) (context : StepContext) (stateA stateB : BodyState) (u
       go (Weld j) = refl
       go Other = refl
 
-  -- a refusal leaves the joint and the velocities as they were
+  -- a spherical joint stays one, and no other becomes one
+  pub solve-case : isSpherical (solveSphericalJoint sim context stateA stateB useBias .joint .«union_») ≡ isSpherical (sim .«union_»)
+  unfolding solveSphericalJoint solveSphericalUnion
+  solve-case = go (sim .«union_») refl
+    where
+      go : (u : JointUnion) → sim .«union_» ≡ u → isSpherical (solveSphericalUnion u sim (context .h) (context .«inv_h») stateA stateB useBias .joint .«union_») ≡ isSpherical u
+      go (Revolute j) e = ap isSpherical e
+      go (Spherical j) e = refl
+      go (Weld j) e = ap isSpherical e
+      go Other e = ap isSpherical e
+
+  -- the number is 1 exactly where the case is another
+  pub solve-number : solveSphericalJoint sim context stateA stateB useBias .number ≡ cond (isSpherical (sim .«union_»)) 0 1
+  unfolding solveSphericalJoint solveSphericalUnion
+  solve-number = go (sim .«union_»)
+    where
+      go : (u : JointUnion) → solveSphericalUnion u sim (context .h) (context .«inv_h») stateA stateB useBias .number ≡ cond (isSpherical u) 0 1
+      go (Revolute j) = refl
+      go (Spherical j) = refl
+      go (Weld j) = refl
+      go Other = refl
+
+  -- and then joint and velocities are as they were
   pub solve-refused : isSpherical (sim .«union_») ≡ false → solveSphericalJoint sim context stateA stateB useBias ≡ notSolved sim stateA stateB
   unfolding solveSphericalJoint solveSphericalUnion
   solve-refused = go (sim .«union_»)
     where
       go : (u : JointUnion) → isSpherical u ≡ false → solveSphericalUnion u sim (context .h) (context .«inv_h») stateA stateB useBias ≡ notSolved sim stateA stateB
-      go (Revolute j) other = refl
-      go (Spherical j) other = cc
-      go (Weld j) other = refl
-      go Other other = refl
+      go (Revolute j) e = refl
+      go (Spherical j) e = cc
+      go (Weld j) e = refl
+      go Other e = refl

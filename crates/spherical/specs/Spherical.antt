@@ -1,5 +1,5 @@
 -- joint/spherical.rs: prepare, warm start and solve of a ball joint. Definitions only. Assumes nothing.
-use mathlib.Core.Bool.{Bool, not, cond}
+use mathlib.Core.Bool.{Bool, true, false, not, cond}
 use lib.Ieee.{Float}
 use lib.IntN.{ℤ}
 use Rattle.sqrt.specs.Sqrt.{sqrt}
@@ -249,7 +249,14 @@ solveSpherical base j h invH stateA stateB useBias =
     (withImpulses j (point .impulse) (spring .impulse) (motor .impulse) (twist .«lower_impulse») (twist .«upper_impulse») (cone .impulse))
     (point .velocities)
 
--- ---- the stages of a joint, whose case may be another
+-- ---- the stages over a joint of any kind: one whose case is not Spherical gets number 1, place 0, and nothing is altered
+
+-- is the joint's case the kind called?
+abbrev pub isSpherical : JointUnion → Bool
+isSpherical (Revolute j) = false
+isSpherical (Spherical j) = true
+isSpherical (Weld j) = false
+isSpherical Other = false
 
 unfoldable pub prepareSphericalUnion : JointUnion → JointSim → Float → Bool → BodyRecord → BodyRecord → Prepared
 prepareSphericalUnion (Revolute j) sim h enableWarmStarting bodyA bodyB = notPrepared sim

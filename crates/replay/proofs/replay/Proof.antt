@@ -8,10 +8,13 @@ use Rattle.replay.proofs.replay.Statement.{statement}
 use Rattle.replay.proofs.replay.Tie as tie
 
 abbrev Inv-loop : tie.InvT-loop
-Inv-loop buf₀ s₀ turns₀ buf s turns = length buf ≡ length buf₀
+Inv-loop buf₀ fd s₀ turns₀ buf s turns = length buf ≡ length buf₀
 
 abbrev μ-loop : tie.MeasureT-loop
-μ-loop buf₀ s₀ turns₀ buf s turns = turns
+μ-loop buf₀ fd s₀ turns₀ buf s turns = turns
+
+begun-requires : tie.Need-begun-requires Inv-loop μ-loop
+begun-requires c κs = tt
 
 loop-holds : tie.Need-loop-holds Inv-loop μ-loop
 loop-holds c = search needs
@@ -46,6 +49,7 @@ replay-spec =
     (tie.spec
     Inv-loop
     μ-loop
+    begun-requires
     loop-holds
     turn-requires
     sub-turns

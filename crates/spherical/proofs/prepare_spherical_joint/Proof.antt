@@ -2,14 +2,14 @@
 use borrow.Author.Needs.{needs}
 use Rattle.spherical.specs.Spherical.{prepareSphericalUnion, prepareSphericalJoint}
 use Rattle.spherical.specs.Facts.{prepare-refused}
-use Rattle.spherical.proofs.OtherCase.{other-case}
+use Rattle.spherical.proofs.Cases.{not-spherical}
 use Rattle.spherical.proofs.prepare_spherical_joint.Statement.{statement}
 use Rattle.spherical.proofs.prepare_spherical_joint.Tie as tie
 
 returns : tie.Need-returns
 returns c =
     let a = c .before .args in
-    rw (prepare-refused (a .joint) (a .context) (a .body-a) (a .body-b) (other-case (a .joint .«union_») (c .match .keys2)))
+    rw (prepare-refused (a .joint) (a .context) (a .body-a) (a .body-b) (not-spherical (a .joint .«union_») (c .match .keys2)))
 
 returns-2 : tie.Need-returns-2
 unfolding prepareSphericalJoint prepareSphericalUnion

@@ -2,14 +2,14 @@
 use borrow.Author.Needs.{needs}
 use Rattle.spherical.specs.Spherical.{solveSphericalUnion, solveSphericalJoint}
 use Rattle.spherical.specs.Facts.{solve-refused}
-use Rattle.spherical.proofs.OtherCase.{other-case}
+use Rattle.spherical.proofs.Cases.{not-spherical}
 use Rattle.spherical.proofs.solve_spherical_joint.Statement.{statement}
 use Rattle.spherical.proofs.solve_spherical_joint.Tie as tie
 
 returns : tie.Need-returns
 returns c =
     let a = c .before .before .args in
-    rw (solve-refused (a .joint) (a .context) (a .state-a) (a .state-b) (a .use-bias) (other-case (a .joint .«union_») (c .before .match .keys2)), ← (c .velocities-of .ensures))
+    rw (solve-refused (a .joint) (a .context) (a .state-a) (a .state-b) (a .use-bias) (not-spherical (a .joint .«union_») (c .before .match .keys2)), ← (c .velocities-of .ensures))
 
 returns-2 : tie.Need-returns-2
 unfolding solveSphericalJoint solveSphericalUnion

@@ -2,14 +2,14 @@
 use borrow.Author.Needs.{needs}
 use Rattle.spherical.specs.Spherical.{warmStartSphericalUnion, warmStartSphericalJoint}
 use Rattle.spherical.specs.Facts.{warm-start-refused}
-use Rattle.spherical.proofs.OtherCase.{other-case}
+use Rattle.spherical.proofs.Cases.{not-spherical}
 use Rattle.spherical.proofs.warm_start_spherical_joint.Statement.{statement}
 use Rattle.spherical.proofs.warm_start_spherical_joint.Tie as tie
 
 returns : tie.Need-returns
 returns c =
     let a = c .before .before .args in
-    rw (warm-start-refused (a .joint) (a .state-a) (a .state-b) (other-case (a .joint .«union_») (c .before .match .keys2)), ← (c .velocities-of .ensures))
+    rw (warm-start-refused (a .joint) (a .state-a) (a .state-b) (not-spherical (a .joint .«union_») (c .before .match .keys2)), ← (c .velocities-of .ensures))
 
 returns-2 : tie.Need-returns-2
 unfolding warmStartSphericalJoint warmStartSphericalUnion
