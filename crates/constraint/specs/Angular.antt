@@ -28,7 +28,7 @@ row3 impulse velocities = record { impulse = impulse; velocities = velocities }
 abbrev pub limitRows : Float → Float → Velocities → LimitRows
 limitRows lowerImpulse upperImpulse velocities = record { «lower_impulse» = lowerImpulse; «upper_impulse» = upperImpulse; velocities = velocities }
 
--- all but the point row are skipped when rotation is fixed
+-- a row with a switch is worked if that is on and rotation is not fixed
 unfoldable pub isWorked : Bool → Bool → Bool
 isWorked enabled fixedRotation = enabled && not fixedRotation
 

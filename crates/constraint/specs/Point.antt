@@ -1,4 +1,4 @@
--- What the point rows of the three kinds share. Definitions only. Assumes nothing.
+-- The pieces of the point rows of the three kinds. Definitions only. Assumes nothing.
 use mathlib.Core.Bool.{Bool, cond}
 use lib.Ieee.{Float}
 use Rattle.math_functions.specs.declared.types.Vec3.{Vec3}

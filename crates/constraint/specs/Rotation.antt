@@ -18,7 +18,7 @@ relativeRotation deltaA frameA deltaB frameB =
     let quatB = mulQuat deltaB frameB in
     relative quatA (invMulQuat quatA quatB)
 
--- revolute and weld: the second quaternion is flipped where it lies on the other side from the first
+-- revolute and weld, in a solve: the second quaternion is flipped where it lies on the other side from the first
 unfoldable pub flippedRelativeRotation : Quat → Quat → Quat → Quat → RelativeRotation
 flippedRelativeRotation deltaA frameA deltaB frameB =
     let quatA = mulQuat deltaA frameA in

@@ -55,6 +55,6 @@ limitImpulse s mass cdot oldImpulse = maxFloat (oldImpulse ⊕ softImpulse s mas
 unfoldable pub softImpulse3 : SoftBias3 → Vec3 → Vec3 → Vec3
 softImpulse3 s b oldImpulse = mulSub (mulSv (neg (s .«mass_scale»)) b) (s .«impulse_scale») oldImpulse
 
--- revolute's point row subtracts two products where the others use mul_sub
+-- revolute's point row subtracts two products where the others use mul_sub: other text, the same operations
 unfoldable pub softImpulse3Products : SoftBias3 → Vec3 → Vec3 → Vec3
 softImpulse3Products s b oldImpulse = sub (mulSv (neg (s .«mass_scale»)) b) (mulSv (s .«impulse_scale») oldImpulse)

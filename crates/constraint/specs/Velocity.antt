@@ -1,4 +1,4 @@
--- The velocities that the rows change, the masses that they divide by, and how a row's impulse changes the velocities. Definitions only. Assumes nothing.
+-- The velocities that the rows change, the inverse masses that they multiply by, and how a row's impulse changes the velocities. Definitions only. Assumes nothing.
 use lib.Ieee.{Float}
 use Rattle.math_functions.specs.declared.types.Vec3.{Vec3}
 use Rattle.math_functions.specs.declared.types.Matrix3.{Matrix3}
@@ -19,7 +19,7 @@ velocitiesOf a b = velocities (a .«linear_velocity») (a .«angular_velocity»)
 unfoldable pub invMassesOf : JointBase → InvMasses
 invMassesOf base = record { «m_a» = base .«inv_mass_a»; «m_b» = base .«inv_mass_b»; «i_a» = base .«inv_i_a»; «i_b» = base .«inv_i_b» }
 
--- spring, motor and lower limit about an axis: w_a loses the impulse, w_b gains it
+-- revolute's spring and motor, and the lower limits: w_a loses the impulse, w_b gains it
 unfoldable pub applyAxial : InvMasses → Float → Vec3 → Velocities → Velocities
 applyAxial m impulse axis v =
     velocities (v .«v_a») (mulSub (v .«w_a») impulse (mulMv (m .«i_a») axis)) (v .«v_b») (mulAdd (v .«w_b») impulse (mulMv (m .«i_b») axis))

@@ -1,4 +1,4 @@
-// What the point rows of the three kinds share.
+// The pieces of the point rows of the three kinds.
 ghost use mathlib.Core.Path.{_≡_};
 ghost use Rattle.constraint.specs.Point as D;
 use crate::soft::RIGID3;

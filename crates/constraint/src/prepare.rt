@@ -17,8 +17,8 @@ use records::NULL_INDEX;
 use records::body::BodyRecord;
 use records::joint::JointBase;
 
-// The base with the masses of the two bodies. Rotation is fixed where their inverse inertias sum to
-// a matrix that cannot be inverted; a determinant below zero counts as such, and a NaN does not.
+// The base with the masses of the two bodies. Rotation is fixed where the determinant of the summed
+// inverse inertias is below 1000 * 2^-126: so where it is negative, and not where it is a NaN.
 pub fn prepare_base(base: JointBase, body_a: BodyRecord, body_b: BodyRecord) -> JointBase
     ensures { λ r. ⌜ r ≡ D.prepareBase base «body_a» «body_b» ⌝ }
 {

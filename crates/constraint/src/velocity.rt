@@ -1,5 +1,5 @@
-// The velocities that the rows change, the masses that they divide by, and how a row's impulse
-// changes the velocities.
+// The velocities that the rows change, the inverse masses that they multiply by, and how a row's
+// impulse changes the velocities.
 ghost use mathlib.Core.Path.{_≡_};
 ghost use Rattle.constraint.specs.Velocity as D;
 use math_functions::matrix::mul_mv;

@@ -20,7 +20,7 @@ use Rattle.joint.specs.declared.stage.Staged.{Staged}
 abbrev pub staged : JointUnion → Velocities → Staged
 staged union velocities = record { «union_» = union; velocities = velocities }
 
--- document 01's stages: 0 warm start, 1 solve with bias, 2 solve without
+-- document 01's stages: 0 warm start, 1 solve with bias, 2 solve without; so does any other, which no accepted call has
 unfoldable pub stageRevolute : JointBase → RevoluteJoint → Float → Float → BodyState → BodyState → ℕ → Staged
 stageRevolute base j h invH stateA stateB stage =
     let s = solveRevolute base j h invH stateA stateB (eqb stage 1) in

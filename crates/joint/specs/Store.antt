@@ -12,6 +12,5 @@ statePair a b = record { «state_a» = a; «state_b» = b }
 unfoldable pub storePair : BodyState → BodyState → Bool → Velocities → StatePair
 storePair stateA stateB oneBody v =
     let a = storeVelocities stateA (v .«v_a») (v .«w_a») in
-    let both = storeVelocities a (v .«v_b») (v .«w_b») in
     let b = storeVelocities stateB (v .«v_b») (v .«w_b») in
-    cond oneBody (statePair both both) (statePair a b)
+    cond oneBody (statePair b b) (statePair a b)

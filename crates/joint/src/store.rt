@@ -21,14 +21,13 @@ pub fn store_pair(
     ensures { λ r. ⌜ r ≡ D.storePair «state_a» «state_b» «one_body» v ⌝ }
 {
     let a = store_velocities(state_a, v.v_a, v.w_a);
+    let b = store_velocities(state_b, v.v_b, v.w_b);
     if one_body {
-        let both = store_velocities(a, v.v_b, v.w_b);
         return StatePair {
-            state_a: both,
-            state_b: both,
+            state_a: b,
+            state_b: b,
         };
     }
-    let b = store_velocities(state_b, v.v_b, v.w_b);
     StatePair {
         state_a: a,
         state_b: b,

@@ -57,7 +57,7 @@ two = lit 0x4000_0000
 abbrev pub minPositive : Float
 minPositive = lit 0x0080_0000
 
--- 1000.0 * f32::MIN_POSITIVE, the least size of a determinant or of a squared length that is divided by: 1000 × 2 ^ -126 (`threshold-is`)
+-- 1000.0 * f32::MIN_POSITIVE, 1000 × 2 ^ -126 (`threshold-is`): only above it is a determinant or a squared length divided by, and below it rotation is fixed
 abbrev pub threshold : Float
 threshold = lit 0x447a_0000 ⊗ minPositive
 

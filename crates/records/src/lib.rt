@@ -1,4 +1,5 @@
-// The records that joints and bodies are kept in, with the Rust's names and order of fields.
+// The records that joints and bodies are kept in, with the Rust's names and order of fields. Where
+// one is cut in two or stands for several, its comment says so.
 pub mod body;
 pub mod joint;
 

@@ -79,7 +79,7 @@ withImpulses j linear spring motor lowerTwist upperTwist swing =
 
 -- ---- the rows of a solve
 
--- Spring. The error is the rotation to the target, turned into the world; the softness is the spring's own, with or without bias.
+-- Spring. The error is minus the rotation to the target, turned into the world; the softness is the spring's own, with or without bias.
 unfoldable pub springRow : Bool → RelativeRotation → Quat → Softness → Matrix3 → Vec3 → InvMasses → Velocities → Row3
 springRow worked rotation targetRotation springSoftness rotationMass oldImpulse m v =
     let c = neg (rotateVector (rotation .«quat_a») (deltaQuatToRotation (rotation .«rel_q») targetRotation)) in

@@ -1,0 +1,2 @@
+mod Elements
+mod Lists

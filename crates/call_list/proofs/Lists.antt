@@ -1,0 +1,172 @@
+-- Laws on a list of calls, as the loops go through its bytes. Assumes nothing.
+use mathlib.Core.Path.{_≡_, refl, sym, ap, _∙_}
+use mathlib.Core.Logic.{_≢_}
+use mathlib.Core.Bool.{Bool, true, false, cond, _||_, _&&_}
+use mathlib.Core.List.{List, [], _∷_, _++_}
+use Prim.Native.Nat.{ℕ, zero, suc, _+_, _%_, _≤_, _<_}
+use native.Mathlib.Numerals.{add-one, add-two}
+use native.Mathlib.Omega.{arith}
+use lib.Dec.{eqb, ltb, leb}
+use lib.ListN.{length, getD, set, take, drop, length-drop, length-set}
+use lib.Seq.{drop-cons, take-at}
+use borrow.Author.Tests.{eq-eqb, ne-eqb, eqb-true, eqb-false, ltb-false, leb-false}
+use Rattle.solver.specs.declared.StepContext.{StepContext}
+use Rattle.records.specs.declared.body.BodyState.{BodyState}
+use Rattle.records.specs.declared.joint.JointSim.{JointSim}
+use Rattle.records.specs.Body.{identityBodyState}
+use Rattle.scene.specs.declared.Scene.{Scene}
+use Rattle.scene.specs.declared.Verdict.{Verdict}
+use Rattle.scene.specs.declared.Run.{Run}
+use Rattle.scene.specs.Reorder.{Every}
+use Rattle.scene.specs.Scene.{noJoint}
+use Rattle.scene.specs.Calls.{Call, call, calls}
+use Rattle.scene.specs.Plain.{causeIn, cause, verdictOf, firstCause, earlyCause, verdict, Accepted, step, runCalls, sameVelocities, sameBelow, isStill, done, refused, plainRun}
+use Rattle.scene.specs.Accepted.{run-accepted, run-refused}
+use Rattle.scene.specs.Counted.{accepted-slots}
+use Rattle.call_list.specs.Places.{jointPlace, withIdentity}
+use Rattle.call_list.proofs.Elements.{getD-any, joint-place-in, remade}
+
+-- ---- the tests before the calls
+
+pub record NoEarly (bodyCount jointCount bytes : ℕ) : Type 0 where
+  pub few-bodies : bodyCount ≤ 32
+  pub few-joints : jointCount ≤ 32
+  pub even : bytes % 2 ≡ 0
+  pub short : bytes ≤ 8192
+
+pub early-none : (n m l : ℕ) → earlyCause n m l ≡ 0 → NoEarly n m l
+unfolding earlyCause
+early-none n m l e = by (ltb 32 n) (ltb 32 m) (eqb (l % 2) 1) (ltb 8192 l) refl refl refl refl e
+  where
+    by : (a b c d : Bool) → ltb 32 n ≡ a → ltb 32 m ≡ b → eqb (l % 2) 1 ≡ c → ltb 8192 l ≡ d → _≡_ {A = ℕ} (cond (a || b) 6 (cond (c || d) 7 0)) 0 → NoEarly n m l
+    by true b c d p q r t e = absurd (omega arith)
+    by false true c d p q r t e = absurd (omega arith)
+    by false false true d p q r t e = absurd (omega arith)
+    by false false false true p q r t e = absurd (omega arith)
+    by false false false false p q r t e =
+        record {
+          few-bodies = ltb-false 32 n p;
+          few-joints = ltb-false 32 m q;
+          even = omega (arith, eqb-false (l % 2) 1 r);
+          short = ltb-false 8192 l t;
+        }
+
+pub verdict-early : (s : Scene) (l : List ℕ) (c : ℕ) → c ≡ earlyCause (s .«body_count») (s .«joint_count») (length l) → c ≢ 0 → verdictOf c 0 ≡ verdict s l
+unfolding verdict
+verdict-early s l c e o = rw (← e, ne-eqb c 0 o)
+
+pub verdict-late : (s : Scene) (l : List ℕ) (c : ℕ) → c ≡ earlyCause (s .«body_count») (s .«joint_count») (length l) → c ≡ 0 → firstCause s 0 (calls l) ≡ verdict s l
+unfolding verdict
+verdict-late s l c e o = rw (sym e ∙ o)
+
+pub accepted-early : (s : Scene) (l : List ℕ) → Accepted s l → NoEarly (s .«body_count») (s .«joint_count») (length l)
+accepted-early s l a = early-none (s .«body_count») (s .«joint_count») (length l) (by (eqb early 0) refl)
+  where
+    early : ℕ
+    early = earlyCause (s .«body_count») (s .«joint_count») (length l)
+
+    by : (b : Bool) → eqb early 0 ≡ b → early ≡ 0
+    by true e = eqb-true early 0 e
+    by false e = ap (λ v. v .number) (verdict-early s l early refl (eqb-false early 0 e)) ∙ a
+
+-- ---- the call at a byte
+
+short-calls : (m : List ℕ) → length m ≤ 1 → calls m ≡ []
+short-calls [] h = refl
+short-calls (x ∷ []) h = refl
+short-calls (x ∷ y ∷ m) h = absurd (omega arith)
+
+module _ (l : List ℕ) (i : ℕ) where
+  calls-here : i + 1 < length l → calls (drop i l) ≡ call (getD l i 0) (getD l (i + 1) 0) ∷ calls (drop (i + 2) l)
+  calls-here h =
+      let a : i < length l = omega arith in
+      let b : suc i < length l = omega arith in
+      rw (add-one i, add-two i, drop-cons l i 0 a, drop-cons l (suc i) 0 b)
+
+  calls-end : length l ≤ i → calls (drop i l) ≡ []
+  calls-end h = short-calls (drop i l) (rw (length-drop i l) (omega arith))
+
+  -- the check's loop
+  module _ (s : Scene) (p : ℕ) (z : Verdict) (q : firstCause s p (calls (drop i l)) ≡ z) where
+    pub check-more : (c : ℕ) → i + 1 < length l → c ≡ cause s (call (getD l i 0) (getD l (i + 1) 0)) → c ≡ 0 → firstCause s (p + 1) (calls (drop (i + 2) l)) ≡ z
+    check-more c h e o = rw (eq-eqb (cause s (call (getD l i 0) (getD l (i + 1) 0))) 0 (sym e ∙ o)) at (rw (calls-here h) at q)
+
+    pub check-stop : (c : ℕ) → i + 1 < length l → c ≡ cause s (call (getD l i 0) (getD l (i + 1) 0)) → c ≢ 0 → verdictOf c p ≡ z
+    check-stop c h e o = rw e (rw (ne-eqb (cause s (call (getD l i 0) (getD l (i + 1) 0))) 0 (λ x. o (e ∙ x))) at (rw (calls-here h) at q))
+
+    pub check-end : length l ≤ i → verdictOf 0 0 ≡ z
+    check-end h = rw (calls-end h) at q
+
+-- a call's cause, from the joint at its slot's place
+pub cause-is : (s : Scene) (slot stage at : ℕ) (d : JointSim) (c : ℕ) → length (s .joints) ≡ 32 → s .«joint_count» ≤ 32 → at ≡ jointPlace slot
+    → c ≡ causeIn (s .«body_count») (s .«joint_count») (getD (s .joints) at d .«union_») (call slot stage)
+    → c ≡ cause s (call slot stage)
+unfolding cause
+cause-is s slot stage at d c long low here e = e ∙ by (leb (s .«joint_count») slot) refl
+  where
+    by : (b : Bool) → leb (s .«joint_count») slot ≡ b
+        → causeIn (s .«body_count») (s .«joint_count») (getD (s .joints) at d .«union_») (call slot stage)
+        ≡ causeIn (s .«body_count») (s .«joint_count») (getD (s .joints) slot noJoint .«union_») (call slot stage)
+    by true f = rw f
+    by false f =
+        let h : slot < 32 = omega (arith, leb-false (s .«joint_count») slot f) in
+        let same : getD (s .joints) at d ≡ getD (s .joints) slot noJoint = rw (here ∙ joint-place-in slot h) (getD-any (s .joints) slot d noJoint (rw long h)) in
+        ap (λ (j : JointSim). causeIn (s .«body_count») (s .«joint_count») (j .«union_») (call slot stage)) same
+
+-- ---- the run's loop
+
+-- the loop's state: `us` and the joints of `t` after the calls before the byte `i`
+pub record Midst (s : Scene) (l : List ℕ) (t : Scene) (bs : List BodyState) (i : ℕ) : Type 0 where
+  pub us : List BodyState
+  pub holds : bs ≡ withIdentity us
+  pub long-bodies : length us ≡ 32
+  pub long-joints : length (t .joints) ≡ 32
+  pub context : t .context ≡ s .context
+  pub slots : Every (λ c. c .slot < s .«joint_count») (calls (drop i l))
+  pub made : runCalls (calls (drop i l)) (remade t us (t .joints)) ≡ runCalls (calls l) s
+
+pub midst-start : (s : Scene) (l : List ℕ) (bs : List BodyState) → Accepted s l → length (s .bodies) ≡ 32 → length (s .joints) ≡ 32 → bs ≡ withIdentity (s .bodies) → Midst s l s bs 0
+midst-start s l bs a b j e = record { us = s .bodies; holds = e; long-bodies = b; long-joints = j; context = refl; slots = accepted-slots s l a; made = refl }
+
+module _ (s : Scene) (l : List ℕ) (t : Scene) (bs : List BodyState) (i : ℕ) (w : Midst s l t bs i) where
+  slots-here : i + 1 < length l → (getD l i 0 < s .«joint_count») × Every (λ c. c .slot < s .«joint_count») (calls (drop (i + 2) l))
+  slots-here h = rw (calls-here l i h) at (w .slots)
+
+  pub slot-low : i + 1 < length l → s .«joint_count» ≤ 32 → getD l i 0 < 32
+  slot-low h few = omega (arith, slots-here h .0)
+
+  pub midst-more : (us : List BodyState) (ws : List BodyState) (at : ℕ) (n : JointSim) → i + 1 < length l → ws ≡ withIdentity us → length us ≡ 32
+      → remade t us (set (t .joints) at n) ≡ step (call (getD l i 0) (getD l (i + 1) 0)) (remade t (w .us) (t .joints))
+      → Midst s l (remade t (t .bodies) (set (t .joints) at n)) ws (i + 2)
+  midst-more us ws at n h holds long g =
+      record {
+        us = us;
+        holds = holds;
+        long-bodies = long;
+        long-joints = length-set (t .joints) at n ∙ w .long-joints;
+        context = w .context;
+        slots = slots-here h .1;
+        made = ap (runCalls (calls (drop (i + 2) l))) g ∙ (rw (calls-here l i h) at (w .made));
+      }
+
+  pub midst-done : (are : List BodyState) → length l ≤ i → are ≡ take 32 bs → remade t are (t .joints) ≡ runCalls (calls l) s
+  unfolding withIdentity
+  midst-done are h e =
+      let same : are ≡ w .us = e ∙ rw (w .holds) (take-at (w .us) (identityBodyState ∷ []) 32 (w .long-bodies)) in
+      ap (λ x. remade t x (t .joints)) same ∙ (rw (calls-end l i h) at (w .made))
+
+-- ---- the run
+
+pub refused-is : (s : Scene) (l : List ℕ) (v : Verdict) → v ≡ verdict s l → v .number ≢ 0 → refused v s ≡ plainRun s l
+refused-is s l v e o = ap (λ x. refused x s) e ∙ sym (run-refused s l (λ z. o (ap (λ x. x .number) e ∙ z)))
+
+pub done-is : (s t : Scene) (l : List ℕ) (b : Bool) → Accepted s l → t ≡ runCalls (calls l) s → b ≡ sameBelow (s .«body_count») (s .bodies) (t .bodies)
+    → record { number = 0; place = 0; still = b; scene = t } ≡ plainRun s l
+unfolding isStill
+done-is s t l b a et eb = ap (λ x. record { number = 0; place = 0; still = x; scene = t }) eb ∙ ap (done s) et ∙ sym (run-accepted s l a)
+
+-- ---- still
+
+pub same-more : (k : ℕ) (bs cs : List BodyState) (d : BodyState) (o e : Bool) → o ≡ sameBelow k bs cs → k < length bs → k < length cs
+    → e ≡ sameVelocities (getD bs k d) (getD cs k d) → o && e ≡ sameBelow (k + 1) bs cs
+same-more k bs cs d o e p h g q = rw (add-one k, p, q, getD-any bs k d identityBodyState h, getD-any cs k d identityBodyState g)

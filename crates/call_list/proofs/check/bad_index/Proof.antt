@@ -1,0 +1,55 @@
+-- `check::bad_index` equals its definition. Assumes nothing.
+use mathlib.Core.Path.{_≡_, refl}
+use mathlib.Core.Bool.{Bool, true, false, true≢false, false≢true}
+use Prim.Native.Nat.{ℕ, zero, suc, _<_}
+use native.Mathlib.Omega.{arith}
+use lib.Dec.{T, leb}
+use lib.IntN.{ℤ, pos, negsuc, natAbs}
+use lib.Signed.{nonNeg, ltZ}
+use mir.Syntax.{w32}
+use mir.Val.{Fits, SFits, toZ, ofZ}
+use mir.ValLaws.{toZ-ofZ}
+use borrow.Author.Tests.{ltb-true, ltb-false}
+use Rattle.scene.specs.Plain.{badIndex}
+use Rattle.call_list.proofs.Elements.{less-back}
+use Rattle.call_list.proofs.check.bad_index.Statement.{statement}
+use Rattle.call_list.proofs.check.bad_index.Tie as tie
+
+below : (n : ℕ) (z : ℤ) → ltZ z (negsuc 0) ≡ true → true ≡ badIndex n z
+below n (pos i) h = absurd (false≢true h)
+below n (negsuc zero) h = absurd (omega (arith, ltb-true 0 0 h))
+below n (negsuc (suc i)) h = refl
+
+none : (n : ℕ) (z : ℤ) → ltZ z (negsuc 0) ≡ false → ltZ z (pos 0) ≡ true → false ≡ badIndex n z
+none n (pos i) g h = absurd (omega (arith, ltb-true i 0 h))
+none n (negsuc zero) g h = refl
+none n (negsuc (suc i)) g h = absurd (omega (arith, ltb-false 0 (suc i) g))
+
+at : (n : ℕ) (z : ℤ) → ltZ z (pos 0) ≡ false → SFits w32 z → T (nonNeg z) × Fits w32 (natAbs z) × (leb n (natAbs z) ≡ badIndex n z)
+at n (pos i) h f = (tt, record { fits = omega (arith, f .sfits) }, refl)
+at n (negsuc i) h f = absurd (true≢false h)
+
+returns : tie.Need-returns
+returns c =
+    let s = c .before in
+    below (s .args .body-count) (s .args .index) (less-back (s .args .index) (negsuc 0) true (s .fits .index) (c .if1 .taken))
+
+returns-2 : tie.Need-returns-2
+returns-2 c =
+    let s = c .before .before in
+    none (s .args .body-count) (s .args .index) (less-back (s .args .index) (negsuc 0) false (s .fits .index) (c .before .if1 .left)) (less-back (s .args .index) (pos 0) true (s .fits .index) (c .if2 .taken))
+
+cast-result : tie.Need-cast-result
+cast-result c =
+    let s = c .before .before in
+    let h = at (s .args .body-count) (s .args .index) (less-back (s .args .index) (pos 0) false (s .fits .index) (c .if2 .left)) (s .fits .index) in
+    rw (toZ-ofZ w32 (s .args .index) (s .fits .index)) (h .0, h .1)
+
+returns-3 : tie.Need-returns-3
+returns-3 c =
+    let s = c .before .before in
+    let h = at (s .args .body-count) (s .args .index) (less-back (s .args .index) (pos 0) false (s .fits .index) (c .if2 .left)) (s .fits .index) in
+    rw (toZ-ofZ w32 (s .args .index) (s .fits .index)) (h .2)
+
+pub bad-index-spec : {M : Type 1} → statement M
+bad-index-spec = tie.close (tie.spec returns returns-2 cast-result returns-3)

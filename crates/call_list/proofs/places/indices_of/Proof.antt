@@ -1,0 +1,49 @@
+-- `places::indices_of` equals its definition, case by case. Assumes nothing.
+use mathlib.Core.Path.{_≡_, refl, sym, ap, _∙_}
+use mir.Syntax.{w32}
+use mir.Val.{SFits}
+use mir.ValLaws.{toZ-ofZ}
+use borrow.Author.Needs.{needs}
+use Rattle.call_list.specs.Places.{indicesOf}
+use Rattle.call_list.proofs.Elements.{tag-other}
+use Rattle.call_list.proofs.places.indices_of.Statement.{statement}
+use Rattle.call_list.proofs.places.indices_of.Tie as tie
+
+enum-known-union- : tie.Need-enum-known-union-
+enum-known-union- c = search needs
+
+enum-known-union--2 : tie.Need-enum-known-union--2
+enum-known-union--2 c = search needs
+
+enum-known-union--3 : tie.Need-enum-known-union--3
+enum-known-union--3 c = search needs
+
+enum-told : tie.Need-enum-told
+enum-told c = search needs
+
+returns : tie.Need-returns
+returns c =
+    let k = c .before .before .union- .given in
+    let f : SFits w32 (k .0 .0 .«index_a») = record { sfits = c .struct-told .given .1 .1 .1 .1 .1 .1 .1 .1 .1 .1 .1 .1 .1 .0 .1 } in
+    let g : SFits w32 (k .0 .0 .«index_b») = record { sfits = c .struct-told .given .1 .1 .1 .1 .1 .1 .1 .1 .1 .1 .1 .1 .1 .1 .0 .1 } in
+    (λ i. record { a = toZ-ofZ w32 (k .0 .0 .«index_a») f i; b = toZ-ofZ w32 (k .0 .0 .«index_b») g i }) ∙ sym (ap indicesOf (k .1))
+
+returns-2 : tie.Need-returns-2
+returns-2 c =
+    let k = c .before .before .union-2 .given in
+    let f : SFits w32 (k .0 .0 .«index_a») = record { sfits = c .struct-told2 .given .1 .1 .1 .1 .1 .1 .1 .1 .1 .1 .1 .1 .1 .1 .0 .1 } in
+    let g : SFits w32 (k .0 .0 .«index_b») = record { sfits = c .struct-told2 .given .1 .1 .1 .1 .1 .1 .1 .1 .1 .1 .1 .1 .1 .1 .1 .0 .1 } in
+    (λ i. record { a = toZ-ofZ w32 (k .0 .0 .«index_a») f i; b = toZ-ofZ w32 (k .0 .0 .«index_b») g i }) ∙ sym (ap indicesOf (k .1))
+
+returns-3 : tie.Need-returns-3
+returns-3 c =
+    let k = c .before .before .union-3 .given in
+    let f : SFits w32 (k .0 .0 .«index_a») = record { sfits = c .struct-told3 .given .1 .1 .1 .1 .1 .1 .1 .1 .0 .1 } in
+    let g : SFits w32 (k .0 .0 .«index_b») = record { sfits = c .struct-told3 .given .1 .1 .1 .1 .1 .1 .1 .1 .1 .0 .1 } in
+    (λ i. record { a = toZ-ofZ w32 (k .0 .0 .«index_a») f i; b = toZ-ofZ w32 (k .0 .0 .«index_b») g i }) ∙ sym (ap indicesOf (k .1))
+
+returns-4 : tie.Need-returns-4
+returns-4 c = sym (ap indicesOf (tag-other (c .before .before .args .union-) (c .before .match .keys4)))
+
+pub indices-of-spec : {M : Type 1} → statement M
+indices-of-spec = tie.close (tie.spec enum-known-union- enum-known-union--2 enum-known-union--3 enum-told returns returns-2 returns-3 returns-4)

@@ -1,0 +1,31 @@
+-- `places::places_of` equals its definition. Assumes nothing.
+use mathlib.Core.Path.{_≡_, ap}
+use mir.Syntax.{w32}
+use mir.Val.{SFits}
+use borrow.Author.Needs.{needs}
+use Rattle.call_list.proofs.Elements.{place-is}
+use Rattle.call_list.proofs.places.places_of.Statement.{statement}
+use Rattle.call_list.proofs.places.places_of.Tie as tie
+
+indices-of-requires : tie.Need-indices-of-requires
+indices-of-requires c κs = search needs
+
+body-place-requires : tie.Need-body-place-requires
+body-place-requires c κs = search needs
+
+body-place-requires-2 : tie.Need-body-place-requires-2
+body-place-requires-2 c κs = search needs
+
+returns : tie.Need-returns
+returns c =
+    let first = c .before .before in
+    let told = first .before in
+    let i = told .before .indices-of in
+    let f : SFits w32 (i .result .a) = record { sfits = told .struct-told .given .0 .1 } in
+    let g : SFits w32 (i .result .b) = record { sfits = told .struct-told .given .1 .0 .1 } in
+    let a = place-is _ _ _ f (ap (λ x. x .a) (i .ensures)) (first .body-place .ensures .1) in
+    let b = place-is _ _ _ g (ap (λ x. x .b) (i .ensures)) (c .body-place2 .ensures .1) in
+    (first .body-place .ensures .0, c .body-place2 .ensures .0, λ k. record { a = a k; b = b k })
+
+pub places-of-spec : {M : Type 1} → statement M
+places-of-spec = tie.close (tie.spec indices-of-requires body-place-requires body-place-requires-2 returns)

@@ -1,0 +1,31 @@
+-- Where a call's joint and its two bodies stand in the arrays of the run's loop. Definitions only. Assumes nothing.
+use mathlib.Core.Bool.{cond}
+use mathlib.Core.List.{List, [], _∷_, _++_}
+use Prim.Native.Nat.{ℕ}
+use lib.Dec.{ltb}
+use lib.IntN.{ℤ, pos, negsuc}
+use Rattle.records.specs.declared.body.BodyState.{BodyState}
+use Rattle.records.specs.declared.joint.JointUnion.{JointUnion}
+use Rattle.records.specs.Body.{identityBodyState}
+use Rattle.scene.specs.Scene.{indexA, indexB}
+use Rattle.call_list.specs.declared.places.Indices.{Indices}
+use Rattle.call_list.specs.declared.places.Places.{Places}
+
+abbrev pub indicesOf : JointUnion → Indices
+indicesOf union = record { a = indexA union; b = indexB union }
+
+-- a place among 32 bodies, or that of the identity state after them
+abbrev pub bodyPlace : ℤ → ℕ
+bodyPlace (pos n) = cond (ltb n 32) n 32
+bodyPlace (negsuc n) = 32
+
+abbrev pub placesOf : JointUnion → Places
+placesOf union = record { a = bodyPlace (indexA union); b = bodyPlace (indexB union) }
+
+-- a place among 32 joints
+unfoldable pub jointPlace : ℕ → ℕ
+jointPlace slot = cond (ltb slot 32) slot 0
+
+-- the bodies, and the identity state after them
+unfoldable pub withIdentity : List BodyState → List BodyState
+withIdentity bodies = bodies ++ (identityBodyState ∷ [])

@@ -1,0 +1,117 @@
+// The tests of a run, made before anything runs.
+ghost use mathlib.Core.Path.{_≡_};
+ghost use Rattle.scene.specs.Calls.{call};
+ghost use Rattle.scene.specs.Plain.{badIndex, causeIn, earlyCause, verdict};
+ghost use Rattle.scene.specs.Scene.{isOther};
+use crate::places::indices_of;
+use crate::places::joint_place;
+use records::joint::JointUnion;
+use scene::Scene;
+use scene::Verdict;
+
+pub fn is_other(union_: JointUnion) -> bool
+    ensures { λ r. ⌜ r ≡ isOther «union_» ⌝ }
+{
+    match union_ {
+        JointUnion::Revolute(_) => false,
+        JointUnion::Spherical(_) => false,
+        JointUnion::Weld(_) => false,
+        JointUnion::Other => true,
+    }
+}
+
+// An index below -1, or at or above the count.
+pub fn bad_index(body_count: u32, index: i32) -> bool
+    ensures { λ r. ⌜ r ≡ badIndex «body_count» index ⌝ }
+{
+    if index < -1 {
+        return true;
+    }
+    if index < 0 {
+        return false;
+    }
+    body_count <= index as u32
+}
+
+// The first cause of a call's refusal, or 0. `union_` is that of the slot's joint.
+pub fn cause_of(body_count: u32, joint_count: u32, union_: JointUnion, slot: u8, stage: u8) -> u32
+    ensures { λ r. ⌜ r ≡ causeIn «body_count» «joint_count» «union_» (call slot stage) ⌝ }
+{
+    if joint_count <= slot as u32 {
+        return 4;
+    }
+    if 2 < stage {
+        return 5;
+    }
+    if is_other(union_) {
+        return 1;
+    }
+    let i = indices_of(union_);
+    if bad_index(body_count, i.a) {
+        return 2;
+    }
+    if bad_index(body_count, i.b) {
+        return 3;
+    }
+    0
+}
+
+// The cause of a refusal before any call is looked at, or 0.
+pub fn early_cause(body_count: u32, joint_count: u32, bytes: usize) -> u32
+    ensures { λ r. ⌜ r ≡ earlyCause «body_count» «joint_count» bytes ⌝ }
+{
+    if 32 < body_count {
+        return 6;
+    }
+    if 32 < joint_count {
+        return 6;
+    }
+    if bytes % 2 == 1 {
+        return 7;
+    }
+    if 8192 < bytes {
+        return 7;
+    }
+    0
+}
+
+// The first cause of a refusal in the whole list, with its place.
+pub fn check_list(scene: Scene, list: &[u8]) -> Verdict
+    ensures { λ r. ⌜ r ≡ verdict scene (now (list .entry)) ⌝ }
+{
+    let n = list.len();
+    let early = early_cause(scene.body_count, scene.joint_count, n);
+    if early != 0 {
+        return Verdict {
+            number: early,
+            place: 0,
+        };
+    }
+    let mut i: usize = 0;
+    let mut place: u32 = 0;
+    while i < n {
+        let slot = list[i];
+        let at = joint_place(slot);
+        let joint = scene.joints[at];
+        let union_ = joint.union_;
+        let cause = cause_of(
+            scene.body_count,
+            scene.joint_count,
+            union_,
+            slot,
+            list[i + 1],
+        );
+        if cause != 0 {
+            return Verdict {
+                number: cause,
+                place,
+            };
+        }
+        i += 2;
+        place += 1;
+    }
+    Verdict {
+        number: 0,
+        place: 0,
+    }
+}

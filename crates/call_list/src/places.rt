@@ -1,0 +1,101 @@
+// Where a call's joint and its two bodies stand in the arrays.
+ghost use mathlib.Core.Path.{_≡_};
+ghost use Prim.Native.Nat.{_<_};
+ghost use lib.ListN.{take};
+ghost use Rattle.call_list.specs.Places as D;
+use records::NULL_INDEX;
+use records::body::BodyState;
+use records::body::IDENTITY_BODY_STATE;
+use records::joint::JointUnion;
+
+// The two body indices of a joint.
+pub struct Indices {
+    pub a: i32,
+    pub b: i32,
+}
+
+// The places of a joint's two bodies in an array that ends with the identity state.
+pub struct Places {
+    pub a: usize,
+    pub b: usize,
+}
+
+// The empty case names no body.
+pub fn indices_of(union_: JointUnion) -> Indices
+    ensures { λ r. ⌜ r ≡ D.indicesOf «union_» ⌝ }
+{
+    match union_ {
+        JointUnion::Revolute(r) => Indices {
+            a: r.index_a,
+            b: r.index_b,
+        },
+        JointUnion::Spherical(r) => Indices {
+            a: r.index_a,
+            b: r.index_b,
+        },
+        JointUnion::Weld(r) => Indices {
+            a: r.index_a,
+            b: r.index_b,
+        },
+        JointUnion::Other => Indices {
+            a: NULL_INDEX,
+            b: NULL_INDEX,
+        },
+    }
+}
+
+// An index's place among 32 bodies and the identity state after them: that of the identity state for
+// -1, and for an index that no accepted call has.
+pub fn body_place(index: i32) -> usize
+    ensures { λ r. ⌜ (r < 33) × (r ≡ D.bodyPlace index) ⌝ }
+{
+    if index < 0 {
+        return 32;
+    }
+    if index < 32 { index as usize } else { 32 }
+}
+
+pub fn places_of(union_: JointUnion) -> Places
+    ensures { λ r. ⌜ (r .a < 33) × (r .b < 33) × (r ≡ D.placesOf «union_») ⌝ }
+{
+    let i = indices_of(union_);
+    Places {
+        a: body_place(i.a),
+        b: body_place(i.b),
+    }
+}
+
+// A slot's place among 32 joints: 0 for a slot that no accepted call has.
+pub fn joint_place(slot: u8) -> usize
+    ensures { λ r. ⌜ (r < 32) × (r ≡ D.jointPlace slot) ⌝ }
+{
+    let place = slot as usize;
+    if place < 32 { place } else { 0 }
+}
+
+// The bodies, and the identity state after them.
+pub fn with_identity(bodies: [BodyState; 32]) -> [BodyState; 33]
+    ensures { λ r. ⌜ r ≡ D.withIdentity bodies ⌝ }
+{
+    let mut out = [IDENTITY_BODY_STATE; 33];
+    let mut k: usize = 0;
+    while k < 32 {
+        let body = bodies[k];
+        out[k] = body;
+        k += 1;
+    }
+    out
+}
+
+pub fn without_identity(bodies: [BodyState; 33]) -> [BodyState; 32]
+    ensures { λ r. ⌜ r ≡ take 32 bodies ⌝ }
+{
+    let mut out = [IDENTITY_BODY_STATE; 32];
+    let mut k: usize = 0;
+    while k < 32 {
+        let body = bodies[k];
+        out[k] = body;
+        k += 1;
+    }
+    out
+}

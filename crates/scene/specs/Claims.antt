@@ -1,0 +1,222 @@
+-- What holds of every run of a call list on a scene, in document 01's words. Statements only: each is proved in Proved.antt, under the same name in small
+-- letters. They are about the plain run (`plainRun`), which the program's run equals for every scene and every list. Assumes nothing.
+use mathlib.Core.Path.{_≡_}
+use mathlib.Core.Logic.{_⊎_, _≢_, _↔_}
+use mathlib.Core.Bool.{Bool, true, false}
+use mathlib.Core.List.{List, [], _∷_, _++_}
+use Prim.Native.Nat.{ℕ, zero, suc, _+_, _%_, _≤_, _<_}
+use lib.Ieee.{Float, nan}
+use lib.IntN.{ℤ, pos, negsuc}
+use lib.ListN.{length}
+use Rattle.math_functions.specs.declared.types.Vec3.{Vec3}
+use Rattle.math_functions.specs.Float.{eq, two}
+use Rattle.records.specs.declared.body.BodyState.{BodyState}
+use Rattle.records.specs.declared.joint.JointSim.{JointSim}
+use Rattle.records.specs.declared.joint.JointUnion.{JointUnion}
+use Rattle.records.specs.declared.joint.JointUnion.the-variants.{Revolute, Spherical, Weld, Other}
+use Rattle.constraint.specs.Facts.{NonNegative}
+use Rattle.scene.specs.declared.Scene.{Scene}
+use Rattle.scene.specs.Scene.{jointAt, indexA, indexB, caseOf, bodyAt, Dynamic, Names, ShareDynamic}
+use Rattle.scene.specs.Calls.{Call, calls, Listed, Solved, onlyOf, onlyOfTwo}
+use Rattle.scene.specs.Plain.{Accepted, runCalls, plainRun}
+use Rattle.scene.specs.Chain.{four, chain, firstThenSecond, secondThenFirst}
+
+-- ==== Numbers and places
+
+-- document 01's causes, by their numbers
+abbrev pub Cause6 : Scene → Type 0
+Cause6 s = (32 < s .«body_count») ⊎ (32 < s .«joint_count»)
+
+abbrev pub Cause7 : List ℕ → Type 0
+Cause7 l = (length l % 2 ≡ 1) ⊎ (8192 < length l)
+
+abbrev pub Cause4 : Scene → Call → Type 0
+Cause4 s c = s .«joint_count» ≤ c .slot
+
+abbrev pub Cause5 : Scene → Call → Type 0
+Cause5 s c = 2 < c .stage
+
+abbrev pub Cause1 : Scene → Call → Type 0
+Cause1 s c = jointAt s (c .slot) .«union_» ≡ Other
+
+-- below -1, or at or above the count
+abbrev pub OutOf : ℕ → ℤ → Type 0
+OutOf count (pos n) = count ≤ n
+OutOf count (negsuc n) = n ≢ 0
+
+abbrev pub Cause2 : Scene → Call → Type 0
+Cause2 s c = OutOf (s .«body_count») (indexA (jointAt s (c .slot) .«union_»))
+
+abbrev pub Cause3 : Scene → Call → Type 0
+Cause3 s c = OutOf (s .«body_count») (indexB (jointAt s (c .slot) .«union_»))
+
+-- a test of a run: the number and the place that it answers, and its cause
+pub record Test : Type 1 where
+  pub number : ℕ
+  pub place : ℕ
+  pub cause : Type 0
+
+abbrev pub test : ℕ → ℕ → Type 0 → Test
+test number place cause = record { number = number; place = place; cause = cause }
+
+-- the tests of the calls, in their order: of each call 4, 5, 1, 2, 3, at its position
+abbrev pub callTests : Scene → ℕ → List Call → List Test
+callTests s place [] = []
+callTests s place (c ∷ l) =
+    test 4 place (Cause4 s c) ∷ test 5 place (Cause5 s c) ∷ test 1 place (Cause1 s c) ∷ test 2 place (Cause2 s c) ∷ test 3 place (Cause3 s c) ∷ callTests s (place + 1) l
+
+-- the tests of a run, in their order: 6, 7, then the calls from the first on
+abbrev pub tests : Scene → List ℕ → List Test
+tests s l = test 6 0 (Cause6 s) ∷ test 7 0 (Cause7 l) ∷ callTests s 0 (calls l)
+
+-- no cause holds
+abbrev pub NoCause : List Test → Type 0
+NoCause [] = Unit {0}
+NoCause (t ∷ ts) = ¬ (t .cause) × NoCause ts
+
+-- the first test whose cause holds has this number and this place
+abbrev pub FirstCause : List Test → ℕ → ℕ → Type 0
+FirstCause [] number place = ⊥
+FirstCause (t ∷ ts) number place =
+    (t .cause × (number ≡ t .number) × (place ≡ t .place)) ⊎ (¬ (t .cause) × FirstCause ts number place)
+
+-- A number other than 0 stands, with its place, exactly when its cause is the first that holds.
+abbrev pub Numbers : Type 0
+Numbers = (s : Scene) (l : List ℕ) (number place : ℕ) → number ≢ 0
+    → ((plainRun s l .number ≡ number) × (plainRun s l .place ≡ place)) ↔ FirstCause (tests s l) number place
+
+-- Number 0 stands exactly when no cause holds, and its place is 0.
+abbrev pub Acceptance : Type 0
+Acceptance = (s : Scene) (l : List ℕ) → ((plainRun s l .number ≡ 0) ↔ NoCause (tests s l)) × (plainRun s l .number ≡ 0 → plainRun s l .place ≡ 0)
+
+-- A refused run is not still and returns the scene unaltered.
+abbrev pub Refusal : Type 0
+Refusal = (s : Scene) (l : List ℕ) → plainRun s l .number ≢ 0 → (plainRun s l .still ≡ false) × (plainRun s l .scene ≡ s)
+
+-- No call can be refused midway: wherever an accepted list is cut, no cause of the next call holds in the scene that the calls before it left.
+abbrev pub Midway : Type 0
+Midway = (s : Scene) (l : List ℕ) → Accepted s l → (before : List Call) (c : Call) (after : List Call) → calls l ≡ before ++ (c ∷ after)
+    → NoCause (callTests (runCalls before s) (length before) (c ∷ []))
+
+-- ==== Still
+
+-- every velocity component of the two states compares equal by the float comparison
+pub record SameVector (v w : Vec3) : Type 0 where
+  pub same-x : eq (v .x) (w .x) ≡ true
+  pub same-y : eq (v .y) (w .y) ≡ true
+  pub same-z : eq (v .z) (w .z) ≡ true
+
+pub record SameVelocities (a b : BodyState) : Type 0 where
+  pub same-linear : SameVector (a .«linear_velocity») (b .«linear_velocity»)
+  pub same-angular : SameVector (a .«angular_velocity») (b .«angular_velocity»)
+
+-- An accepted run is still exactly when every velocity component of every counted body compares equal before and after.
+abbrev pub Stillness : Type 0
+Stillness = (s : Scene) (l : List ℕ) → Accepted s l
+    → (plainRun s l .still ≡ true) ↔ ((n : ℕ) → n < s .«body_count» → SameVelocities (bodyAt s n) (bodyAt (plainRun s l .scene) n))
+
+pub record NoNaN (v : Vec3) : Type 0 where
+  pub number-x : v .x ≢ nan
+  pub number-y : v .y ≢ nan
+  pub number-z : v .z ≢ nan
+
+-- The empty list is accepted exactly where 6 does not hold; it alters nothing, and is still exactly where no velocity component of a counted body is a NaN.
+pub record OfEmpty (s : Scene) : Type 0 where
+  pub accepted : (plainRun s [] .number ≡ 0) ↔ ¬ (Cause6 s)
+  pub unaltered : plainRun s [] .scene ≡ s
+  pub still : ¬ (Cause6 s)
+      → (plainRun s [] .still ≡ true) ↔ ((n : ℕ) → n < s .«body_count» → NoNaN (bodyAt s n .«linear_velocity») × NoNaN (bodyAt s n .«angular_velocity»))
+
+abbrev pub EmptyList : Type 0
+EmptyList = (s : Scene) → OfEmpty s
+
+-- ==== Order
+
+-- Two accepted lists whose calls read the same when only one joint's are kept, whichever joint, and when only those of two joints that share a dynamic body are
+-- kept, whichever two, give the same answer: number, place, still and the whole scene. Which joints share a dynamic body is read off the scene at the start.
+-- Nothing is asked of joints that share only a body that is not dynamic, or none (-1), of a joint with both indices on one body, or of joints that are not listed.
+abbrev pub Order : Type 0
+Order = (s : Scene) (l₁ l₂ : List ℕ) → Accepted s l₁ → Accepted s l₂
+    → ((j : ℕ) → onlyOf j (calls l₁) ≡ onlyOf j (calls l₂))
+    → ((j k : ℕ) → j ≢ k → ShareDynamic s j k → onlyOfTwo j k (calls l₁) ≡ onlyOfTwo j k (calls l₂))
+    → plainRun s l₁ ≡ plainRun s l₂
+
+-- The same, asked of the counted slots alone.
+abbrev pub OrderCounted : Type 0
+OrderCounted = (s : Scene) (l₁ l₂ : List ℕ) → Accepted s l₁ → Accepted s l₂
+    → ((j : ℕ) → j < s .«joint_count» → onlyOf j (calls l₁) ≡ onlyOf j (calls l₂))
+    → ((j k : ℕ) → j < s .«joint_count» → k < s .«joint_count» → j ≢ k → ShareDynamic s j k → onlyOfTwo j k (calls l₁) ≡ onlyOfTwo j k (calls l₂))
+    → plainRun s l₁ ≡ plainRun s l₂
+
+-- ==== What may change
+
+-- `t` is `s` but for linear and angular velocities of dynamic bodies that a listed joint names, and for the kind's record in the union of listed joints, of which
+-- case and indices stay
+pub record OnlyChanges (s : Scene) (l : List Call) (t : Scene) : Type 0 where
+  pub body-count : t .«body_count» ≡ s .«body_count»
+  pub joint-count : t .«joint_count» ≡ s .«joint_count»
+  pub context : t .context ≡ s .context
+  pub as-many-bodies : length (t .bodies) ≡ length (s .bodies)
+  pub as-many-joints : length (t .joints) ≡ length (s .joints)
+  -- of every body
+  pub delta-position : (n : ℕ) → bodyAt t n .«delta_position» ≡ bodyAt s n .«delta_position»
+  pub delta-rotation : (n : ℕ) → bodyAt t n .«delta_rotation» ≡ bodyAt s n .«delta_rotation»
+  pub flags : (n : ℕ) → bodyAt t n .flags ≡ bodyAt s n .flags
+  -- of a body that is not dynamic, or that no listed joint names
+  pub body-kept : (n : ℕ) → ((j : ℕ) → Listed j l → Names s j n → ¬ (Dynamic s n)) → bodyAt t n ≡ bodyAt s n
+  -- of a joint that is not listed
+  pub joint-kept : (j : ℕ) → ¬ (Listed j l) → jointAt t j ≡ jointAt s j
+  -- of every joint
+  pub base-kept : (j : ℕ) → jointAt t j .base ≡ jointAt s j .base
+  pub case-kept : (j : ℕ) → caseOf (jointAt t j .«union_») ≡ caseOf (jointAt s j .«union_»)
+  pub index-a-kept : (j : ℕ) → indexA (jointAt t j .«union_») ≡ indexA (jointAt s j .«union_»)
+  pub index-b-kept : (j : ℕ) → indexB (jointAt t j .«union_») ≡ indexB (jointAt s j .«union_»)
+
+-- Whatever the list, a run changes nothing else.
+abbrev pub Changes : Type 0
+Changes = (s : Scene) (l : List ℕ) → OnlyChanges s (calls l) (plainRun s l .scene)
+
+-- ==== Limits
+
+-- each enabled limit's impulses are zero or positive, and no NaN: revolute's limit and spherical's twist limit, each with a lower and an upper impulse, and
+-- spherical's cone, with the swing impulse
+abbrev pub LimitsPush : JointUnion → Type 0
+LimitsPush (Revolute r) = r .«enable_limit» ≡ true → NonNegative (r .«lower_impulse») × NonNegative (r .«upper_impulse»)
+LimitsPush (Spherical r) =
+    (r .«enable_twist_limit» ≡ true → NonNegative (r .«lower_twist_impulse») × NonNegative (r .«upper_twist_impulse»))
+    × (r .«enable_cone_limit» ≡ true → NonNegative (r .«swing_impulse»))
+LimitsPush (Weld r) = Unit {0}
+LimitsPush Other = Unit {0}
+
+-- At the end of every accepted list, each joint of which a solve stands in the list and whose rotation is not fixed has its enabled limits' impulses zero or
+-- positive, never a NaN.
+abbrev pub Limits : Type 0
+Limits = (s : Scene) (l : List ℕ) → Accepted s l → (j : ℕ) → Solved j (calls l) → jointAt s j .base .«fixed_rotation» ≡ false
+    → LimitsPush (jointAt (plainRun s l .scene) j .«union_»)
+
+-- ==== Two examples
+
+-- the velocity of a body along x once a list has run on the chain of Chain.antt
+abbrev pub endX : ℕ → List ℕ → ℕ → Float
+endX flags l n = bodyAt (plainRun (chain flags) l .scene) n .«linear_velocity» .x
+
+-- Two joints that share a dynamic body, solved in both orders: both lists are accepted and read the same at every one joint, and they end differently. So the
+-- second hypothesis of Order is needed.
+pub record Differ : Type 0 where
+  pub accepted-one : Accepted (chain 0x1000) firstThenSecond
+  pub accepted-other : Accepted (chain 0x1000) secondThenFirst
+  pub shared : ShareDynamic (chain 0x1000) 0 1
+  pub each-alike : (j : ℕ) → onlyOf j (calls firstThenSecond) ≡ onlyOf j (calls secondThenFirst)
+  pub one-ends : endX 0x1000 firstThenSecond 0 ≡ two
+  pub other-ends : endX 0x1000 secondThenFirst 0 ≡ four
+  pub not-alike : plainRun (chain 0x1000) firstThenSecond ≢ plainRun (chain 0x1000) secondThenFirst
+
+-- The same joints with a body between them that is not dynamic: both orders end alike, and both ends of the chain have moved.
+pub record Agree : Type 0 where
+  pub accepted-one : Accepted (chain 0) firstThenSecond
+  pub accepted-other : Accepted (chain 0) secondThenFirst
+  pub shared : Names (chain 0) 0 1 × Names (chain 0) 1 1
+  pub not-dynamic : ¬ (Dynamic (chain 0) 1)
+  pub first-moved : endX 0 firstThenSecond 0 ≡ two
+  pub last-moved : endX 0 firstThenSecond 2 ≡ four
+  pub alike : plainRun (chain 0) firstThenSecond ≡ plainRun (chain 0) secondThenFirst

@@ -1,0 +1,132 @@
+-- Document 01's plain run: what a run of a call list on a scene answers, from the scene at the start and the list's bytes. Definitions only. Assumes nothing.
+use mathlib.Core.Path.{_≡_}
+use mathlib.Core.Bool.{Bool, true, false, cond, _&&_, _||_}
+use mathlib.Core.List.{List, [], _∷_}
+use Prim.Native.Nat.{ℕ, zero, suc, _+_, _%_}
+use lib.Dec.{eqb, ltb, leb}
+use lib.IntN.{ℤ, pos, negsuc}
+use lib.ListN.{length, getD, set}
+use Rattle.math_functions.specs.declared.types.Vec3.{Vec3}
+use Rattle.math_functions.specs.Float.{eq}
+use Rattle.records.specs.declared.body.BodyState.{BodyState}
+use Rattle.records.specs.declared.joint.JointSim.{JointSim}
+use Rattle.records.specs.declared.joint.JointUnion.{JointUnion}
+use Rattle.records.specs.Body.{identityBodyState}
+use Rattle.constraint.specs.declared.velocity.Velocities.{Velocities}
+use Rattle.constraint.specs.Answer.{jointSim}
+use Rattle.joint.specs.declared.stage.Staged.{Staged}
+use Rattle.joint.specs.Stage.{stageJoint}
+use Rattle.scene.specs.declared.Scene.{Scene}
+use Rattle.scene.specs.declared.Verdict.{Verdict}
+use Rattle.scene.specs.declared.Run.{Run}
+use Rattle.scene.specs.Reorder.{runAll}
+use Rattle.scene.specs.Scene.{jointAt, indexA, indexB, isOther, stateAt, store}
+use Rattle.scene.specs.Calls.{Call, calls}
+
+-- ---- a run's tests
+
+-- 'index below -1, or at or above the body count'
+abbrev pub badIndex : ℕ → ℤ → Bool
+badIndex bodyCount (pos n) = leb bodyCount n
+badIndex bodyCount (negsuc zero) = false
+badIndex bodyCount (negsuc (suc n)) = true
+
+-- within a call the tests 4, 5, 1, 2, 3: the first cause that holds, or 0. A call has no kind of its own, so that of 1 only 'not one of the three' is left
+abbrev pub causeIn : ℕ → ℕ → JointUnion → Call → ℕ
+causeIn bodyCount jointCount union c =
+    cond (leb jointCount (c .slot)) 4
+    (cond (ltb 2 (c .stage)) 5
+    (cond (isOther union) 1
+    (cond (badIndex bodyCount (indexA union)) 2
+    (cond (badIndex bodyCount (indexB union)) 3
+    0))))
+
+unfoldable pub cause : Scene → Call → ℕ
+cause s c = causeIn (s .«body_count») (s .«joint_count») (jointAt s (c .slot) .«union_») c
+
+abbrev pub verdictOf : ℕ → ℕ → Verdict
+verdictOf number place = record { number = number; place = place }
+
+-- 'the calls from the first on', where the first is at `place`: 'place is the call's position, counted from 0'
+abbrev pub firstCause : Scene → ℕ → List Call → Verdict
+firstCause s place [] = verdictOf 0 0
+firstCause s place (c ∷ l) = cond (eqb (cause s c) 0) (firstCause s (place + 1) l) (verdictOf (cause s c) place)
+
+-- 'a run tests 6, 7, then the calls': the numbers of the two tests before the calls, or 0
+unfoldable pub earlyCause : ℕ → ℕ → ℕ → ℕ
+earlyCause bodyCount jointCount bytes =
+    cond (ltb 32 bodyCount || ltb 32 jointCount) 6 (cond (eqb (bytes % 2) 1 || ltb 8192 bytes) 7 0)
+
+unfoldable pub verdict : Scene → List ℕ → Verdict
+verdict s l =
+    let early = earlyCause (s .«body_count») (s .«joint_count») (length l) in
+    cond (eqb early 0) (firstCause s 0 (calls l)) (verdictOf early 0)
+
+-- a list is accepted where no cause holds
+abbrev pub Accepted : Scene → List ℕ → Type 0
+Accepted s l = verdict s l .number ≡ 0
+
+-- ---- a call
+
+-- 'demand 2's definition of that kind's stage, with the scene's step context', on the states at the joint's two indices
+abbrev pub stageAt : Scene → JointSim → ℕ → Staged
+stageAt s joint stage =
+    let union = joint .«union_» in
+    stageJoint union (joint .base) (s .context .h) (s .context .«inv_h») (stateAt (s .bodies) (indexA union)) (stateAt (s .bodies) (indexB union)) stage
+
+-- 'stores A, then B, each only if dynamic'
+abbrev pub storeBoth : List BodyState → JointUnion → Velocities → List BodyState
+storeBoth bodies union v = store (store bodies (indexA union) (v .«v_a») (v .«w_a»)) (indexB union) (v .«v_b») (v .«w_b»)
+
+-- 'puts the new joint into the slot'
+abbrev pub placed : Scene → ℕ → JointSim → Staged → Scene
+placed s slot joint r =
+    record {
+      joints = set (s .joints) slot (jointSim (joint .base) (r .«union_»));
+      bodies = storeBoth (s .bodies) (joint .«union_») (r .velocities);
+      «joint_count» = s .«joint_count»;
+      «body_count» = s .«body_count»;
+      context = s .context;
+    }
+
+-- one call: 'it takes the joint in the slot, reads the states at its two indices, and applies the stage'; both states are read first
+unfoldable pub step : Call → Scene → Scene
+step c s =
+    let joint = jointAt s (c .slot) in
+    placed s (c .slot) joint (stageAt s joint (c .stage))
+
+-- 'goes through the calls in order', each on what the one before it left
+abbrev pub runCalls : List Call → Scene → Scene
+runCalls l s = runAll step l s
+
+-- ---- still
+
+-- 'compares equal by the float comparison': minus zero equals plus zero, and a NaN makes it no
+abbrev pub sameVector : Vec3 → Vec3 → Bool
+sameVector v w = eq (v .x) (w .x) && eq (v .y) (w .y) && eq (v .z) (w .z)
+
+unfoldable pub sameVelocities : BodyState → BodyState → Bool
+sameVelocities a b = sameVector (a .«linear_velocity») (b .«linear_velocity») && sameVector (a .«angular_velocity») (b .«angular_velocity»)
+
+-- the first `count` bodies
+abbrev pub sameBelow : ℕ → List BodyState → List BodyState → Bool
+sameBelow zero before after = true
+sameBelow (suc n) before after =
+    sameBelow n before after && sameVelocities (getD before n identityBodyState) (getD after n identityBodyState)
+
+-- 'still': every velocity component of the counted bodies compares equal before and after
+unfoldable pub isStill : Scene → Scene → Bool
+isStill before after = sameBelow (before .«body_count») (before .bodies) (after .bodies)
+
+-- ---- the run
+
+-- 'number 0, place 0, still as defined, and the scene'
+abbrev pub done : Scene → Scene → Run
+done before after = record { number = 0; place = 0; still = isStill before after; scene = after }
+
+-- 'the first one's number and place, still no, and the scene as fed'
+abbrev pub refused : Verdict → Scene → Run
+refused v s = record { number = v .number; place = v .place; still = false; scene = s }
+
+unfoldable pub plainRun : Scene → List ℕ → Run
+plainRun s l = cond (eqb (verdict s l .number) 0) (done s (runCalls (calls l) s)) (refused (verdict s l) s)

@@ -1,0 +1,136 @@
+-- The claims of Claims.antt, proved, each under its statement's name in small letters. Assumes nothing.
+use mathlib.Core.Path.{_≡_, refl, sym, ap, _∙_, subst}
+use mathlib.Core.Logic.{_⊎_, inl, inr, ⊎-elim, _≢_, _↔_, Iff·trans}
+use mathlib.Core.Bool.{Bool, true, false}
+use mathlib.Core.List.{List, [], _∷_, _++_}
+use Prim.Native.Nat.{ℕ, zero, suc, _+_, _%_, _<_}
+use native.Mathlib.Omega.{arith}
+use lib.Dec.{eqb}
+use lib.Ieee.{Float}
+use lib.ListN.{length}
+use borrow.Author.Tests.{eqb-true, eqb-false}
+use Rattle.records.specs.declared.body.BodyState.{BodyState}
+use Rattle.records.specs.declared.joint.JointBase.{JointBase}
+use Rattle.records.specs.declared.joint.JointUnion.{JointUnion}
+use Rattle.records.specs.declared.joint.JointSim.{JointSim}
+use Rattle.constraint.specs.Answer.{jointSim}
+use Rattle.joint.specs.Stage.{stageJoint}
+use Rattle.scene.specs.declared.Scene.{Scene}
+use Rattle.scene.specs.declared.Verdict.{Verdict}
+use Rattle.scene.specs.Scene.{jointAt, bodyAt}
+use Rattle.scene.specs.Calls.{Call, calls}
+use Rattle.scene.specs.Plain.{verdict, Accepted, cause, runCalls, isStill, done, refused, plainRun}
+use Rattle.scene.specs.Claims.{Numbers, Acceptance, Refusal, Midway, Stillness, SameVelocities, NoNaN, EmptyList, OfEmpty, Order, OrderCounted, Changes, OnlyChanges, Cause6, Cause7, callTests, tests, NoCause, FirstCause, LimitsPush, Limits, Differ, Agree}
+use Rattle.scene.specs.Accepted.{verdict-answers, answers-numbers, answers-none, run-accepted, run-refused, run-verdict, accepted-calls, no-cause-kept, no-cause-at}
+use Rattle.scene.specs.Stages.{warm-keeps, solve-limits}
+use Rattle.scene.specs.Settled.{settled}
+use Rattle.scene.specs.Framed.{framed, fixed-at}
+use Rattle.scene.specs.Still.{same-below, same-self}
+use Rattle.scene.specs.Examples as Examples
+use Rattle.scene.specs.Order.{same-answer}
+use Rattle.scene.specs.Counted.{same-answer-counted}
+use Rattle.scene.specs.Changes.{only-changes, nothing-changes}
+
+-- ---- numbers and places
+
+pub numbers : Numbers
+numbers s l number place ne =
+    let same = run-verdict s l in
+    let given = answers-numbers (tests s l) (verdict s l) (verdict-answers s l) number place ne in
+    (λ e. given .0 (sym (same .0) ∙ e .0, sym (same .1) ∙ e .1), λ h. let v = given .1 h in (same .0 ∙ v .0, same .1 ∙ v .1))
+
+pub acceptance : Acceptance
+acceptance s l =
+    let same = run-verdict s l in
+    let given = answers-none (tests s l) (verdict s l) (verdict-answers s l) in
+    ((λ e. given .0 (sym (same .0) ∙ e), λ h. same .0 ∙ given .1 h), λ e. same .1 ∙ verdict-answers s l .none (sym (same .0) ∙ e) .1)
+
+pub refusal : Refusal
+refusal s l ne =
+    let r = run-refused s l (λ e. ne (run-verdict s l .0 ∙ e)) in
+    (ap (λ x. x .still) r, ap (λ x. x .scene) r)
+
+pub midway : Midway
+midway s l e before c after same =
+    no-cause-kept s (runCalls before s) (framed s before) (length before) c (no-cause-at s 0 (length before) (calls l) before c after same (accepted-calls s l e))
+
+-- ---- still
+
+still-is : (s : Scene) (l : List ℕ) → Accepted s l → plainRun s l .still ≡ isStill s (plainRun s l .scene)
+still-is s l e = let r = run-accepted s l e in ap (λ x. x .still) r ∙ sym (ap (λ x. isStill s (x .scene)) r)
+
+pub stillness : Stillness
+unfolding isStill
+stillness s l e =
+    let r = still-is s l e in
+    let given = same-below (s .«body_count») (s .bodies) (plainRun s l .scene .bodies) in
+    (λ h. given .0 (sym r ∙ h), λ h. r ∙ given .1 h)
+
+empty-7 : Cause7 [] → ⊥
+empty-7 (inl e) = omega arith
+empty-7 (inr h) = omega arith
+
+empty-same : (s : Scene) → plainRun s [] .scene ≡ s
+empty-same s = by (eqb (verdict s [] .number) 0) refl
+  where
+    by : (b : Bool) → eqb (verdict s [] .number) 0 ≡ b → plainRun s [] .scene ≡ s
+    by true e = ap (λ x. x .scene) (run-accepted s [] (eqb-true (verdict s [] .number) 0 e))
+    by false e = ap (λ x. x .scene) (run-refused s [] (eqb-false (verdict s [] .number) 0 e))
+
+pub empty-list : EmptyList
+empty-list s = record { accepted = number; unaltered = empty-same s; still = still }
+  where
+    number : (plainRun s [] .number ≡ 0) ↔ ¬ (Cause6 s)
+    number = (λ e. acceptance s [] .0 .0 e .0, λ h. acceptance s [] .0 .1 (h, (empty-7, tt)))
+
+    still : ¬ (Cause6 s) → (plainRun s [] .still ≡ true) ↔ ((n : ℕ) → n < s .«body_count» → NoNaN (bodyAt s n .«linear_velocity») × NoNaN (bodyAt s n .«angular_velocity»))
+    still h =
+        let given = stillness s [] (sym (run-verdict s [] .0) ∙ number .1 h) in
+        let same : (n : ℕ) → bodyAt (plainRun s [] .scene) n ≡ bodyAt s n = λ n. ap (λ t. bodyAt t n) (empty-same s) in (
+          λ e n g. same-self (bodyAt s n) .0 (subst (λ b. SameVelocities (bodyAt s n) b) (same n) (given .0 e n g)),
+          λ k. given .1 (λ n g. subst (λ b. SameVelocities (bodyAt s n) b) (sym (same n)) (same-self (bodyAt s n) .1 (k n g))),
+        )
+
+-- ---- order
+
+pub order : Order
+order = same-answer
+
+pub order-counted : OrderCounted
+order-counted = same-answer-counted
+
+-- ---- what may change
+
+pub changes : Changes
+changes s l = by (eqb (verdict s l .number) 0) refl
+  where
+    by : (b : Bool) → eqb (verdict s l .number) 0 ≡ b → OnlyChanges s (calls l) (plainRun s l .scene)
+    by true e = rw (run-accepted s l (eqb-true (verdict s l .number) 0 e)) (only-changes s (calls l))
+    by false e = rw (run-refused s l (eqb-false (verdict s l .number) 0 e)) (nothing-changes s (calls l))
+
+-- ---- limits
+
+-- what each solve of a joint brings about
+abbrev Settled : JointSim → Type 0
+Settled j = j .base .«fixed_rotation» ≡ false → LimitsPush (j .«union_»)
+
+settled-stays : (u : JointUnion) (base : JointBase) (h invH : Float) (a b : BodyState) (stage : ℕ) → Settled (jointSim base u) → Settled (jointSim base (stageJoint u base h invH a b stage .«union_»))
+settled-stays u base h invH a b stage p = by (eqb stage 0) refl
+  where
+    by : (x : Bool) → eqb stage 0 ≡ x → Settled (jointSim base (stageJoint u base h invH a b stage .«union_»))
+    by true e = rw (warm-keeps base h invH a b stage u (eqb-true stage 0 e)) p
+    by false e = λ free. solve-limits base h invH a b stage u (eqb-false stage 0 e) free
+
+pub limits : Limits
+limits s l accepted j solved free =
+    rw (run-accepted s l accepted)
+    (settled Settled (λ f. tt) (λ u base h invH a b stage ne f. solve-limits base h invH a b stage u ne f) settled-stays (calls l) s j solved
+    (ap (λ x. x .base .«fixed_rotation») (fixed-at s (runCalls (calls l) s) (framed s (calls l)) j) ∙ free))
+
+-- ---- the examples
+
+pub differ : Differ
+differ = Examples.differ
+
+pub agree : Agree
+agree = Examples.agree
