@@ -30,9 +30,11 @@ use Rattle.constraint.specs.Answer.{jointSim}
 use Rattle.joint.specs.declared.stage.Staged.{Staged}
 use Rattle.joint.specs.Stage.{stageJoint}
 use Rattle.scene.specs.declared.Scene.{Scene}
-use Rattle.scene.specs.Scene.{noJoint, indexA, indexB, stateAt, store}
+use Rattle.records.specs.Joint.{unusedJoint}
+use Rattle.joint.specs.Index.{indexA, indexB, badIndex}
+use Rattle.scene.specs.Scene.{stateAt, store}
 use Rattle.scene.specs.Calls.{call}
-use Rattle.scene.specs.Plain.{badIndex, storeBoth, step}
+use Rattle.scene.specs.Plain.{storeBoth, step}
 use Rattle.call_list.specs.Places.{bodyPlace, jointPlace, withIdentity}
 
 -- in range the value past the end does not matter
@@ -50,21 +52,8 @@ bodies-long s e = sym (length-map (s .bodies) (BodyField.the-field .into)) ∙ e
 
 -- ---- signed numbers, which the code has by their bits
 
-pub less-back : (z y : ℤ) (b : Bool) → SFits w32 z → ltZ (toZ w32 (ofZ w32 z)) y ≡ b → ltZ z y ≡ b
-less-back z y b f h = ap (λ x. ltZ x y) (sym (toZ-ofZ w32 z f)) ∙ h
-
-pub bad-is : (n : ℕ) (z y : ℤ) (r b : Bool) → SFits w32 z → z ≡ y → r ≡ badIndex n (toZ w32 (ofZ w32 z)) → r ≡ b → badIndex n y ≡ b
-bad-is n z y r b f e g h = ap (badIndex n) (sym (toZ-ofZ w32 z f ∙ e)) ∙ sym g ∙ h
-
 pub place-is : (z y : ℤ) (r : ℕ) → SFits w32 z → z ≡ y → r ≡ bodyPlace (toZ w32 (ofZ w32 z)) → r ≡ bodyPlace y
 place-is z y r f e g = g ∙ ap bodyPlace (toZ-ofZ w32 z f ∙ e)
-
--- a union with the tag of the empty case is the empty case
-pub tag-other : (u : JointUnion) → tagOf the-type u ≡ 3 → u ≡ Other
-tag-other (Revolute r) e = absurd (omega arith)
-tag-other (Spherical r) e = absurd (omega arith)
-tag-other (Weld r) e = absurd (omega arith)
-tag-other Other e = refl
 
 -- ---- places
 
@@ -170,8 +159,8 @@ turn-is t us ws slot stage at pa pb d e na nb r x lb lj ew h ex ha hpa hpb er ka
     let g : set (set ws pa na) pb nb ≡ withIdentity two = rw (f, hpb) (kept-is one lb' y nb e (v .«v_b») (v .«w_b») (rw (f, hpb) at kb)) in
     let sa : getD ws pa e ≡ stateAt us z = rw (ew, hpa) (seen-is us lb z e) in
     let sb : getD ws pb e ≡ stateAt us y = rw (ew, hpb) (seen-is us lb y e) in
-    let same : j ≡ getD (t .joints) slot noJoint = rw q (getD-any (t .joints) slot d noJoint (rw lj h)) in
-    (two, g, store-long one y (v .«v_b») (v .«w_b») lb', finish j (getD (t .joints) slot noJoint) same (getD ws pa e) (getD ws pb e) sa sb (rw ex er) q)
+    let same : j ≡ getD (t .joints) slot unusedJoint = rw q (getD-any (t .joints) slot d unusedJoint (rw lj h)) in
+    (two, g, store-long one y (v .«v_b») (v .«w_b») lb', finish j (getD (t .joints) slot unusedJoint) same (getD ws pa e) (getD ws pb e) sa sb (rw ex er) q)
   where
     finish : (j k : JointSim) → j ≡ k → (a b : BodyState) → a ≡ stateAt us (indexA (j .«union_»)) → b ≡ stateAt us (indexB (j .«union_»))
         → r ≡ stageJoint (j .«union_») (j .base) (t .context .h) (t .context .«inv_h») a b stage

@@ -18,7 +18,7 @@ use Rattle.scene.specs.declared.Scene.{Scene}
 use Rattle.scene.specs.declared.Verdict.{Verdict}
 use Rattle.scene.specs.declared.Run.{Run}
 use Rattle.scene.specs.Reorder.{Every}
-use Rattle.scene.specs.Scene.{noJoint}
+use Rattle.records.specs.Joint.{unusedJoint}
 use Rattle.scene.specs.Calls.{Call, call, calls}
 use Rattle.scene.specs.Plain.{causeIn, cause, verdictOf, firstCause, earlyCause, verdict, Accepted, step, runCalls, sameVelocities, sameBelow, isStill, done, refused, plainRun}
 use Rattle.scene.specs.Accepted.{run-accepted, run-refused}
@@ -106,11 +106,11 @@ cause-is s slot stage at d c long low here e = e ∙ by (leb (s .«joint_count»
   where
     by : (b : Bool) → leb (s .«joint_count») slot ≡ b
         → causeIn (s .«body_count») (s .«joint_count») (getD (s .joints) at d .«union_») (call slot stage)
-        ≡ causeIn (s .«body_count») (s .«joint_count») (getD (s .joints) slot noJoint .«union_») (call slot stage)
+        ≡ causeIn (s .«body_count») (s .«joint_count») (getD (s .joints) slot unusedJoint .«union_») (call slot stage)
     by true f = rw f
     by false f =
         let h : slot < 32 = omega (arith, leb-false (s .«joint_count») slot f) in
-        let same : getD (s .joints) at d ≡ getD (s .joints) slot noJoint = rw (here ∙ joint-place-in slot h) (getD-any (s .joints) slot d noJoint (rw long h)) in
+        let same : getD (s .joints) at d ≡ getD (s .joints) slot unusedJoint = rw (here ∙ joint-place-in slot h) (getD-any (s .joints) slot d unusedJoint (rw long h)) in
         ap (λ (j : JointSim). causeIn (s .«body_count») (s .«joint_count») (j .«union_») (call slot stage)) same
 
 -- ---- the run's loop

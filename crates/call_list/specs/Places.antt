@@ -7,12 +7,8 @@ use lib.IntN.{ℤ, pos, negsuc}
 use Rattle.records.specs.declared.body.BodyState.{BodyState}
 use Rattle.records.specs.declared.joint.JointUnion.{JointUnion}
 use Rattle.records.specs.Body.{identityBodyState}
-use Rattle.scene.specs.Scene.{indexA, indexB}
-use Rattle.call_list.specs.declared.places.Indices.{Indices}
+use Rattle.joint.specs.Index.{indexA, indexB}
 use Rattle.call_list.specs.declared.places.Places.{Places}
-
-abbrev pub indicesOf : JointUnion → Indices
-indicesOf union = record { a = indexA union; b = indexB union }
 
 -- a place among 32 bodies, or that of the identity state after them
 abbrev pub bodyPlace : ℤ → ℕ

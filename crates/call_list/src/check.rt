@@ -1,10 +1,10 @@
 // The tests of a run, made before anything runs.
 ghost use mathlib.Core.Path.{_≡_};
 ghost use Rattle.scene.specs.Calls.{call};
-ghost use Rattle.scene.specs.Plain.{badIndex, causeIn, earlyCause, verdict};
-ghost use Rattle.scene.specs.Scene.{isOther};
-use crate::places::indices_of;
+ghost use Rattle.joint.specs.Index.{isOther};
+ghost use Rattle.scene.specs.Plain.{causeIn, earlyCause, verdict};
 use crate::places::joint_place;
+use joint::index::index_cause;
 use records::joint::JointUnion;
 use scene::Scene;
 use scene::Verdict;
@@ -20,19 +20,6 @@ pub fn is_other(union_: JointUnion) -> bool
     }
 }
 
-// An index below -1, or at or above the count.
-pub fn bad_index(body_count: u32, index: i32) -> bool
-    ensures { λ r. ⌜ r ≡ badIndex «body_count» index ⌝ }
-{
-    if index < -1 {
-        return true;
-    }
-    if index < 0 {
-        return false;
-    }
-    body_count <= index as u32
-}
-
 // The first cause of a call's refusal, or 0. `union_` is that of the slot's joint.
 pub fn cause_of(body_count: u32, joint_count: u32, union_: JointUnion, slot: u8, stage: u8) -> u32
     ensures { λ r. ⌜ r ≡ causeIn «body_count» «joint_count» «union_» (call slot stage) ⌝ }
@@ -46,14 +33,7 @@ pub fn cause_of(body_count: u32, joint_count: u32, union_: JointUnion, slot: u8,
     if is_other(union_) {
         return 1;
     }
-    let i = indices_of(union_);
-    if bad_index(body_count, i.a) {
-        return 2;
-    }
-    if bad_index(body_count, i.b) {
-        return 3;
-    }
-    0
+    index_cause(body_count as usize, union_)
 }
 
 // The cause of a refusal before any call is looked at, or 0.

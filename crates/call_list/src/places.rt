@@ -3,45 +3,15 @@ ghost use mathlib.Core.Path.{_≡_};
 ghost use Prim.Native.Nat.{_<_};
 ghost use lib.ListN.{take};
 ghost use Rattle.call_list.specs.Places as D;
-use records::NULL_INDEX;
+use joint::index::indices_of;
 use records::body::BodyState;
 use records::body::IDENTITY_BODY_STATE;
 use records::joint::JointUnion;
-
-// The two body indices of a joint.
-pub struct Indices {
-    pub a: i32,
-    pub b: i32,
-}
 
 // The places of a joint's two bodies in an array that ends with the identity state.
 pub struct Places {
     pub a: usize,
     pub b: usize,
-}
-
-// The empty case names no body.
-pub fn indices_of(union_: JointUnion) -> Indices
-    ensures { λ r. ⌜ r ≡ D.indicesOf «union_» ⌝ }
-{
-    match union_ {
-        JointUnion::Revolute(r) => Indices {
-            a: r.index_a,
-            b: r.index_b,
-        },
-        JointUnion::Spherical(r) => Indices {
-            a: r.index_a,
-            b: r.index_b,
-        },
-        JointUnion::Weld(r) => Indices {
-            a: r.index_a,
-            b: r.index_b,
-        },
-        JointUnion::Other => Indices {
-            a: NULL_INDEX,
-            b: NULL_INDEX,
-        },
-    }
 }
 
 // An index's place among 32 bodies and the identity state after them: that of the identity state for

@@ -1,3 +1,4 @@
+pub mod Index
 pub mod Stage
 pub mod StopCode
 pub mod Store

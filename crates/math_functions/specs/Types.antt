@@ -47,3 +47,6 @@ quatIdentity = quat vec3Zero one
 
 abbrev pub mat3Zero : Matrix3
 mat3Zero = matrix3 vec3Zero vec3Zero vec3Zero
+
+abbrev pub transformIdentity : Transform
+transformIdentity = transform vec3Zero quatIdentity

@@ -67,28 +67,17 @@ pub const VEC3_AXIS_Z: Vec3 = Vec3 {
 };
 
 pub const QUAT_IDENTITY: Quat = Quat {
-    v: Vec3 {
-        x: 0.0,
-        y: 0.0,
-        z: 0.0,
-    },
+    v: VEC3_ZERO,
     s: 1.0,
 };
 
 pub const MAT3_ZERO: Matrix3 = Matrix3 {
-    cx: Vec3 {
-        x: 0.0,
-        y: 0.0,
-        z: 0.0,
-    },
-    cy: Vec3 {
-        x: 0.0,
-        y: 0.0,
-        z: 0.0,
-    },
-    cz: Vec3 {
-        x: 0.0,
-        y: 0.0,
-        z: 0.0,
-    },
+    cx: VEC3_ZERO,
+    cy: VEC3_ZERO,
+    cz: VEC3_ZERO,
+};
+
+pub const TRANSFORM_IDENTITY: Transform = Transform {
+    p: VEC3_ZERO,
+    q: QUAT_IDENTITY,
 };

@@ -3,7 +3,9 @@ ghost use mathlib.Core.Path.{_≡_};
 ghost use Rattle.records.specs.Body as D;
 use math_functions::types::Matrix3;
 use math_functions::types::Pos;
+use math_functions::types::QUAT_IDENTITY;
 use math_functions::types::Quat;
+use math_functions::types::VEC3_ZERO;
 use math_functions::types::Vec3;
 
 // The flag of a body that the solver writes to.
@@ -26,29 +28,10 @@ pub struct BodyState {
 
 // Identity body state; notice delta_rotation is identity.
 pub const IDENTITY_BODY_STATE: BodyState = BodyState {
-    linear_velocity: Vec3 {
-        x: 0.0,
-        y: 0.0,
-        z: 0.0,
-    },
-    angular_velocity: Vec3 {
-        x: 0.0,
-        y: 0.0,
-        z: 0.0,
-    },
-    delta_position: Vec3 {
-        x: 0.0,
-        y: 0.0,
-        z: 0.0,
-    },
-    delta_rotation: Quat {
-        v: Vec3 {
-            x: 0.0,
-            y: 0.0,
-            z: 0.0,
-        },
-        s: 1.0,
-    },
+    linear_velocity: VEC3_ZERO,
+    angular_velocity: VEC3_ZERO,
+    delta_position: VEC3_ZERO,
+    delta_rotation: QUAT_IDENTITY,
     flags: 0,
 };
 
@@ -77,8 +60,13 @@ pub fn store_velocities(state: BodyState, v: Vec3, w: Vec3) -> BodyState
 {
     if is_dynamic(state) {
         let mut out = state;
-        out.linear_velocity = v;
-        out.angular_velocity = w;
+        // number by number: the state stays in registers
+        out.linear_velocity.x = v.x;
+        out.linear_velocity.y = v.y;
+        out.linear_velocity.z = v.z;
+        out.angular_velocity.x = w.x;
+        out.angular_velocity.y = w.y;
+        out.angular_velocity.z = w.z;
         return out;
     }
     state

@@ -1,6 +1,9 @@
 // Joint records: the three kinds, the union of them, and the part that all kinds share.
+use crate::NULL_INDEX;
+use math_functions::types::MAT3_ZERO;
 use math_functions::types::Matrix3;
 use math_functions::types::Quat;
+use math_functions::types::TRANSFORM_IDENTITY;
 use math_functions::types::Transform;
 use math_functions::types::Vec2;
 use math_functions::types::Vec3;
@@ -148,3 +151,30 @@ pub struct JointSim {
     pub base: JointBase,
     pub union_: JointUnion,
 }
+
+// A joint that is not in use: the Rust's default of JointSim, with the empty case.
+pub const UNUSED_JOINT: JointSim = JointSim {
+    base: JointBase {
+        joint_id: NULL_INDEX,
+        body_id_a: NULL_INDEX,
+        body_id_b: NULL_INDEX,
+        type_: JointType::Distance,
+        local_frame_a: TRANSFORM_IDENTITY,
+        local_frame_b: TRANSFORM_IDENTITY,
+        inv_mass_a: 0.0,
+        inv_mass_b: 0.0,
+        inv_i_a: MAT3_ZERO,
+        inv_i_b: MAT3_ZERO,
+        constraint_hertz: 0.0,
+        constraint_damping_ratio: 0.0,
+        constraint_softness: Softness {
+            bias_rate: 0.0,
+            mass_scale: 0.0,
+            impulse_scale: 0.0,
+        },
+        force_threshold: 0.0,
+        torque_threshold: 0.0,
+        fixed_rotation: false,
+    },
+    union_: JointUnion::Other,
+};

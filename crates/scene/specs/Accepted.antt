@@ -13,9 +13,10 @@ use Rattle.records.specs.declared.joint.JointUnion.{JointUnion}
 use Rattle.records.specs.declared.joint.JointUnion.the-variants.{Revolute, Spherical, Weld, Other}
 use Rattle.scene.specs.declared.Scene.{Scene}
 use Rattle.scene.specs.declared.Verdict.{Verdict}
-use Rattle.scene.specs.Scene.{jointAt, indexA, indexB, caseOf, isOther}
+use Rattle.joint.specs.Index.{indexA, indexB, caseOf, isOther, badIndex}
+use Rattle.scene.specs.Scene.{jointAt}
 use Rattle.scene.specs.Calls.{Call, calls}
-use Rattle.scene.specs.Plain.{badIndex, causeIn, cause, verdictOf, firstCause, earlyCause, verdict, Accepted, done, refused, runCalls, plainRun}
+use Rattle.scene.specs.Plain.{causeIn, cause, verdictOf, firstCause, earlyCause, verdict, Accepted, done, refused, runCalls, plainRun}
 use Rattle.scene.specs.Framed.{Framed, cause-kept}
 use Rattle.scene.specs.Claims.{Cause1, Cause2, Cause3, Cause4, Cause5, Cause6, Cause7, OutOf, Test, test, callTests, tests, NoCause, FirstCause}
 

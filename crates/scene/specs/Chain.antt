@@ -14,7 +14,7 @@ use Rattle.records.specs.declared.joint.JointUnion.the-variants.{Weld}
 use Rattle.records.specs.declared.joint.JointSim.{JointSim}
 use Rattle.records.specs.Body.{identityBodyState}
 use Rattle.scene.specs.declared.Scene.{Scene}
-use Rattle.scene.specs.Scene.{noJoint}
+use Rattle.records.specs.Joint.{unusedJoint}
 
 -- 4.0 and 8.0
 abbrev pub four : Float
@@ -74,7 +74,7 @@ moving x flags =
 unfoldable pub chain : ℕ → Scene
 chain flags =
     record {
-      joints = weld 0 1 ∷ weld 1 2 ∷ replicate 30 noJoint;
+      joints = weld 0 1 ∷ weld 1 2 ∷ replicate 30 unusedJoint;
       bodies = moving four 0x1000 ∷ moving zero flags ∷ moving eight 0x1000 ∷ replicate 29 identityBodyState;
       «joint_count» = 2;
       «body_count» = 3;

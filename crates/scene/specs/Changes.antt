@@ -11,7 +11,9 @@ use Rattle.records.specs.declared.joint.JointSim.{JointSim}
 use Rattle.records.specs.Body.{isDynamic, identityBodyState}
 use Rattle.scene.specs.declared.Scene.{Scene}
 use Rattle.scene.specs.Reorder.{runAll}
-use Rattle.scene.specs.Scene.{noJoint, jointAt, indexA, indexB, bodyAt, Dynamic, Names}
+use Rattle.records.specs.Joint.{unusedJoint}
+use Rattle.joint.specs.Index.{indexA, indexB}
+use Rattle.scene.specs.Scene.{jointAt, bodyAt, Dynamic, Names}
 use Rattle.scene.specs.Calls.{Call, Some, Listed}
 use Rattle.scene.specs.Plain.{stageAt, step}
 use Rattle.scene.specs.Claims.{OnlyChanges}
@@ -54,7 +56,7 @@ bodies-kept s n (c ∷ l) t f h = bodies-kept s n l (step c t) (framed-step s c 
 
 pub call-keeps-joint : (j : ℕ) (c : Call) (s : Scene) → c .slot ≢ j → jointAt (step c s) j ≡ jointAt s j
 unfolding step
-call-keeps-joint j c s h = getD-set-other (s .joints) (c .slot) j _ noJoint (λ p. h (sym p))
+call-keeps-joint j c s h = getD-set-other (s .joints) (c .slot) j _ unusedJoint (λ p. h (sym p))
 
 joint-stays : (s : Scene) (l : List Call) (j : ℕ) → ¬ (Listed j l) → jointAt (runAll step l s) j ≡ jointAt s j
 joint-stays s [] j h = refl

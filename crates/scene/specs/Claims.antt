@@ -16,7 +16,8 @@ use Rattle.records.specs.declared.joint.JointUnion.{JointUnion}
 use Rattle.records.specs.declared.joint.JointUnion.the-variants.{Revolute, Spherical, Weld, Other}
 use Rattle.constraint.specs.Facts.{NonNegative}
 use Rattle.scene.specs.declared.Scene.{Scene}
-use Rattle.scene.specs.Scene.{jointAt, indexA, indexB, caseOf, bodyAt, Dynamic, Names, ShareDynamic}
+use Rattle.joint.specs.Index.{indexA, indexB, caseOf}
+use Rattle.scene.specs.Scene.{jointAt, bodyAt, Dynamic, Names, ShareDynamic}
 use Rattle.scene.specs.Calls.{Call, calls, Listed, Solved, onlyOf, onlyOfTwo}
 use Rattle.scene.specs.Plain.{Accepted, runCalls, plainRun}
 use Rattle.scene.specs.Chain.{four, chain, firstThenSecond, secondThenFirst}

@@ -30,7 +30,9 @@ use Rattle.joint.specs.Stage as Stage
 use Rattle.scene.specs.Keep.{keepIf}
 use Rattle.scene.specs.Order.{same-answer}
 use Rattle.scene.specs.Changes.{pos-of}
-use Rattle.scene.specs.Scene.{noJoint, indexA, indexB, bodyAt, Dynamic, Names, ShareDynamic, store}
+use Rattle.records.specs.Joint.{unusedJoint}
+use Rattle.joint.specs.Index.{indexA, indexB}
+use Rattle.scene.specs.Scene.{bodyAt, Dynamic, Names, ShareDynamic, store}
 use Rattle.scene.specs.Calls.{Call, calls, onlyOf}
 use Rattle.scene.specs.Plain.{cause, earlyCause, verdict, Accepted, step, sameVelocities, isStill, plainRun}
 use Rattle.scene.specs.Chain.{four, chain, firstThenSecond, secondThenFirst}
@@ -104,7 +106,7 @@ unfolding chain plainRun verdict earlyCause cause step store isStill sameVelocit
 last-moved = refl
 
 -- of the dynamic bodies joint 0 names 0 and joint 1 names 2, and no other joint names a body: so no two share one
-past-end : (n j : ℕ) → getD (replicate n noJoint) j noJoint ≡ noJoint
+past-end : (n j : ℕ) → getD (replicate n unusedJoint) j unusedJoint ≡ unusedJoint
 past-end zero j = refl
 past-end (suc n) zero = refl
 past-end (suc n) (suc j) = past-end n j

@@ -17,9 +17,11 @@ use Rattle.records.specs.declared.joint.JointSim.{JointSim}
 use Rattle.constraint.specs.Answer.{jointSim}
 use Rattle.scene.specs.declared.Scene.{Scene}
 use Rattle.scene.specs.Reorder.{runAll}
-use Rattle.scene.specs.Scene.{noJoint, jointAt, indexA, indexB, caseOf, isOther, stateAt}
+use Rattle.records.specs.Joint.{unusedJoint}
+use Rattle.joint.specs.Index.{indexA, indexB, caseOf, isOther, badIndex}
+use Rattle.scene.specs.Scene.{jointAt, stateAt}
 use Rattle.scene.specs.Calls.{Call}
-use Rattle.scene.specs.Plain.{badIndex, causeIn, cause, stageAt, step}
+use Rattle.scene.specs.Plain.{causeIn, cause, stageAt, step}
 use Rattle.scene.specs.Stages.{stage-keeps}
 use Rattle.scene.specs.Stores.{restOf, SameRest, both-rest}
 
@@ -56,7 +58,7 @@ framed-step s c t f =
     let j = jointAt t (c .slot) in
     record {
       bodies = both-rest (t .bodies) (j .«union_») (stageAt t j (c .stage) .velocities) ∙ f .bodies;
-      joints = map-set-same fixedOf (t .joints) (c .slot) _ noJoint (staged-fixed t j (c .stage)) ∙ f .joints;
+      joints = map-set-same fixedOf (t .joints) (c .slot) _ unusedJoint (staged-fixed t j (c .stage)) ∙ f .joints;
       body-count = f .body-count;
       joint-count = f .joint-count;
       context = f .context;
@@ -70,7 +72,7 @@ pub framed : (s : Scene) (l : List Call) → Framed s (runAll step l s)
 framed s l = framed-from s l s (framed-start s)
 
 pub fixed-at : (s t : Scene) → Framed s t → (j : ℕ) → fixedOf (jointAt t j) ≡ fixedOf (jointAt s j)
-fixed-at s t f j = sym (List·getD-map fixedOf (t .joints) j noJoint) ∙ ap (λ l. getD l j (fixedOf noJoint)) (f .joints) ∙ List·getD-map fixedOf (s .joints) j noJoint
+fixed-at s t f j = sym (List·getD-map fixedOf (t .joints) j unusedJoint) ∙ ap (λ l. getD l j (fixedOf unusedJoint)) (f .joints) ∙ List·getD-map fixedOf (s .joints) j unusedJoint
 
 -- ---- a call's cause is the same in every scene that a run passes through
 

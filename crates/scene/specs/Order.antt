@@ -19,7 +19,9 @@ use Rattle.joint.specs.Stage.{stageJoint}
 use Rattle.scene.specs.declared.Scene.{Scene}
 use Rattle.scene.specs.Keep.{keepIf}
 use Rattle.scene.specs.Reorder.{runAll, Steps, reorder}
-use Rattle.scene.specs.Scene.{noJoint, jointAt, indexA, indexB, Dynamic, Names, ShareDynamic}
+use Rattle.records.specs.Joint.{unusedJoint}
+use Rattle.joint.specs.Index.{indexA, indexB}
+use Rattle.scene.specs.Scene.{jointAt, Dynamic, Names, ShareDynamic}
 use Rattle.scene.specs.Calls.{Call, calls, onlyOf, onlyOfTwo}
 use Rattle.scene.specs.Plain.{storeBoth, placed, stageAt, step, done, Accepted, plainRun}
 use Rattle.scene.specs.Stores.{clash, clash-at, Clear, both-unseen, both-swap}
@@ -58,8 +60,8 @@ swap-calls a b s ne h₁ h₂ h₃ h₄ =
     let sb = placed s k g n in
     let ea : step a s ≡ sa = step-is a s j m refl refl in
     let eb : step b s ≡ sb = step-is b s g n refl refl in
-    let ga : jointAt sa k ≡ g = getD-set-other (s .joints) i k _ noJoint (λ p. ne (sym p)) in
-    let jb : jointAt sb i ≡ j = getD-set-other (s .joints) k i _ noJoint ne in
+    let ga : jointAt sa k ≡ g = getD-set-other (s .joints) i k _ unusedJoint (λ p. ne (sym p)) in
+    let jb : jointAt sb i ≡ j = getD-set-other (s .joints) k i _ unusedJoint ne in
     let na : stageAt sa g (b .stage) ≡ n = stage-after s i j m g (b .stage) h₁ h₂ in
     let mb : stageAt sb j (a .stage) ≡ m = stage-after s k g n j (a .stage) h₃ h₄ in
     let bodies = both-swap (s .bodies) (j .«union_») (g .«union_») (m .velocities) (n .velocities) h₁ h₂ in

@@ -20,16 +20,11 @@ use Rattle.scene.specs.declared.Scene.{Scene}
 use Rattle.scene.specs.declared.Verdict.{Verdict}
 use Rattle.scene.specs.declared.Run.{Run}
 use Rattle.scene.specs.Reorder.{runAll}
-use Rattle.scene.specs.Scene.{jointAt, indexA, indexB, isOther, stateAt, store}
+use Rattle.joint.specs.Index.{indexA, indexB, isOther, indexCause}
+use Rattle.scene.specs.Scene.{jointAt, stateAt, store}
 use Rattle.scene.specs.Calls.{Call, calls}
 
 -- ---- a run's tests
-
--- 'index below -1, or at or above the body count'
-abbrev pub badIndex : ℕ → ℤ → Bool
-badIndex bodyCount (pos n) = leb bodyCount n
-badIndex bodyCount (negsuc zero) = false
-badIndex bodyCount (negsuc (suc n)) = true
 
 -- within a call the tests 4, 5, 1, 2, 3: the first cause that holds, or 0. A call has no kind of its own, so that of 1 only 'not one of the three' is left
 abbrev pub causeIn : ℕ → ℕ → JointUnion → Call → ℕ
@@ -37,9 +32,7 @@ causeIn bodyCount jointCount union c =
     cond (leb jointCount (c .slot)) 4
     (cond (ltb 2 (c .stage)) 5
     (cond (isOther union) 1
-    (cond (badIndex bodyCount (indexA union)) 2
-    (cond (badIndex bodyCount (indexB union)) 3
-    0))))
+    (indexCause bodyCount union)))
 
 unfoldable pub cause : Scene → Call → ℕ
 cause s c = causeIn (s .«body_count») (s .«joint_count») (jointAt s (c .slot) .«union_») c

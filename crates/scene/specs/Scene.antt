@@ -1,82 +1,30 @@
 -- What a scene holds, what its joints name, and how a body is read and stored. Definitions only. Assumes nothing.
 use mathlib.Core.Path.{_≡_}
 use mathlib.Core.Logic.{_⊎_}
-use mathlib.Core.Bool.{Bool, true, false}
+use mathlib.Core.Bool.{true}
 use mathlib.Core.List.{List}
 use Prim.Native.Nat.{ℕ}
 use lib.IntN.{ℤ, pos, negsuc}
-use lib.ListN.{getD, set}
+use lib.ListN.{getD, set, replicate}
 use Rattle.math_functions.specs.declared.types.Vec3.{Vec3}
-use Rattle.math_functions.specs.Float.{zero}
-use Rattle.math_functions.specs.Types.{transform, vec3Zero, quatIdentity, mat3Zero}
-use Rattle.solver.specs.Solver.{softness}
+use Rattle.solver.specs.declared.StepContext.{StepContext}
 use Rattle.records.specs.declared.body.BodyState.{BodyState}
-use Rattle.records.specs.declared.joint.JointType.the-variants as JointType
-use Rattle.records.specs.declared.joint.JointBase.{JointBase}
-use Rattle.records.specs.declared.joint.JointUnion.{JointUnion}
-use Rattle.records.specs.declared.joint.JointUnion.the-variants.{Revolute, Spherical, Weld, Other}
 use Rattle.records.specs.declared.joint.JointSim.{JointSim}
-use Rattle.records.specs.Body.{nullIndex, isDynamic, storeVelocities, identityBodyState}
-use Rattle.constraint.specs.Answer.{jointSim}
+use Rattle.records.specs.Body.{isDynamic, storeVelocities, identityBodyState}
+use Rattle.records.specs.Joint.{unusedJoint}
+use Rattle.joint.specs.Index.{indexA, indexB}
 use Rattle.scene.specs.declared.Scene.{Scene}
+
+-- a scene with no joints and no bodies
+abbrev pub emptyScene : StepContext → Scene
+emptyScene context =
+    record { joints = replicate 32 unusedJoint; bodies = replicate 32 identityBodyState; «joint_count» = 0; «body_count» = 0; context = context }
 
 -- ---- joints
 
--- what stands past the end of the joints, where no accepted call comes: the empty case
-abbrev pub noBase : JointBase
-noBase =
-    record {
-      «joint_id» = nullIndex;
-      «body_id_a» = nullIndex;
-      «body_id_b» = nullIndex;
-      «type_» = JointType.Filter;
-      «local_frame_a» = transform vec3Zero quatIdentity;
-      «local_frame_b» = transform vec3Zero quatIdentity;
-      «inv_mass_a» = zero;
-      «inv_mass_b» = zero;
-      «inv_i_a» = mat3Zero;
-      «inv_i_b» = mat3Zero;
-      «constraint_hertz» = zero;
-      «constraint_damping_ratio» = zero;
-      «constraint_softness» = softness zero zero zero;
-      «force_threshold» = zero;
-      «torque_threshold» = zero;
-      «fixed_rotation» = false;
-    }
-
-abbrev pub noJoint : JointSim
-noJoint = jointSim noBase Other
-
--- the joint in a slot
+-- the joint in a slot; past the end, where no accepted call comes, one that is not in use
 abbrev pub jointAt : Scene → ℕ → JointSim
-jointAt s j = getD (s .joints) j noJoint
-
--- a joint's two indices, which stand in its kind's record; the empty case has none
-abbrev pub indexA : JointUnion → ℤ
-indexA (Revolute r) = r .«index_a»
-indexA (Spherical r) = r .«index_a»
-indexA (Weld r) = r .«index_a»
-indexA Other = nullIndex
-
-abbrev pub indexB : JointUnion → ℤ
-indexB (Revolute r) = r .«index_b»
-indexB (Spherical r) = r .«index_b»
-indexB (Weld r) = r .«index_b»
-indexB Other = nullIndex
-
--- which case a joint is
-abbrev pub caseOf : JointUnion → ℕ
-caseOf (Revolute r) = 0
-caseOf (Spherical r) = 1
-caseOf (Weld r) = 2
-caseOf Other = 3
-
--- the case is not one of the three
-abbrev pub isOther : JointUnion → Bool
-isOther (Revolute r) = false
-isOther (Spherical r) = false
-isOther (Weld r) = false
-isOther Other = true
+jointAt s j = getD (s .joints) j unusedJoint
 
 -- ---- bodies
 

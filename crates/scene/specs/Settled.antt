@@ -18,7 +18,8 @@ use Rattle.constraint.specs.Answer.{jointSim}
 use Rattle.joint.specs.Stage.{stageJoint}
 use Rattle.scene.specs.declared.Scene.{Scene}
 use Rattle.scene.specs.Reorder.{runAll}
-use Rattle.scene.specs.Scene.{noJoint, jointAt}
+use Rattle.records.specs.Joint.{unusedJoint}
+use Rattle.scene.specs.Scene.{jointAt}
 use Rattle.scene.specs.Calls.{Call, Some, Solved}
 use Rattle.scene.specs.Plain.{stageAt, step}
 use Rattle.scene.specs.Changes.{call-keeps-joint}
@@ -26,14 +27,14 @@ use Rattle.scene.specs.Changes.{call-keeps-joint}
 call-here : (c : Call) (s : Scene) → c .slot < length (s .joints)
     → jointAt (step c s) (c .slot) ≡ jointSim (jointAt s (c .slot) .base) (stageAt s (jointAt s (c .slot)) (c .stage) .«union_»)
 unfolding step
-call-here c s h = getD-set-same (s .joints) (c .slot) _ noJoint h
+call-here c s h = getD-set-same (s .joints) (c .slot) _ unusedJoint h
 
-call-past : (c : Call) (s : Scene) → length (s .joints) ≤ c .slot → jointAt (step c s) (c .slot) ≡ noJoint
+call-past : (c : Call) (s : Scene) → length (s .joints) ≤ c .slot → jointAt (step c s) (c .slot) ≡ unusedJoint
 unfolding step
-call-past c s h = ap (λ l. getD l (c .slot) noJoint) (set-out (s .joints) (c .slot) _ h) ∙ List·getD-eq-default (s .joints) noJoint {n = c .slot} h
+call-past c s h = ap (λ l. getD l (c .slot) unusedJoint) (set-out (s .joints) (c .slot) _ h) ∙ List·getD-eq-default (s .joints) unusedJoint {n = c .slot} h
 
 -- `P` holds past the end, a solve brings it about, and every stage keeps it
-module _ (P : JointSim → Type 0) (past : P noJoint)
+module _ (P : JointSim → Type 0) (past : P unusedJoint)
     (brings : (u : JointUnion) (base : JointBase) (h invH : Float) (a b : BodyState) (stage : ℕ) → stage ≢ 0 → P (jointSim base (stageJoint u base h invH a b stage .«union_»)))
     (keeps : (u : JointUnion) (base : JointBase) (h invH : Float) (a b : BodyState) (stage : ℕ) → P (jointSim base u) → P (jointSim base (stageJoint u base h invH a b stage .«union_»))) where
   at-slot : (c : Call) (s : Scene) → P (jointSim (jointAt s (c .slot) .base) (stageAt s (jointAt s (c .slot)) (c .stage) .«union_»)) → P (jointAt (step c s) (c .slot))

@@ -18,7 +18,7 @@ use Rattle.spherical.specs.Facts as Spherical-facts
 use Rattle.weld.specs.Weld.{solveWeld}
 use Rattle.weld.specs.Facts as Weld-facts
 use Rattle.joint.specs.Stage.{staged, stageRevolute, stageSpherical, stageWeld, stageJoint}
-use Rattle.scene.specs.Scene.{indexA, indexB, caseOf}
+use Rattle.joint.specs.Index.{indexA, indexB, caseOf}
 use Rattle.scene.specs.Claims.{LimitsPush}
 
 -- `v` is of `u`'s case and has its indices

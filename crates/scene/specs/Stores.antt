@@ -14,7 +14,8 @@ use Rattle.records.specs.declared.body.BodyState.{BodyState}
 use Rattle.records.specs.declared.joint.JointUnion.{JointUnion}
 use Rattle.records.specs.Body.{isDynamic, withVelocities, storeVelocities, identityBodyState}
 use Rattle.constraint.specs.declared.velocity.Velocities.{Velocities}
-use Rattle.scene.specs.Scene.{indexA, indexB, stateAt, store}
+use Rattle.joint.specs.Index.{indexA, indexB}
+use Rattle.scene.specs.Scene.{stateAt, store}
 use Rattle.scene.specs.Plain.{storeBoth}
 
 -- ---- a store at -1, or on a body that is not dynamic, changes nothing

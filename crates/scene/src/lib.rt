@@ -1,7 +1,11 @@
 // A scene, and what a run of a call list on it answers. What a run answers is defined in specs/, and
 // what holds of every run is stated in specs/Claims.antt.
+ghost use mathlib.Core.Path.{_≡_};
+ghost use Rattle.scene.specs.Scene as D;
 use records::body::BodyState;
+use records::body::IDENTITY_BODY_STATE;
 use records::joint::JointSim;
+use records::joint::UNUSED_JOINT;
 use solver::StepContext;
 
 // At most 32 joints and 32 bodies, with a count of each, and one step context. A count is whatever
@@ -26,4 +30,17 @@ pub struct Run {
     pub place: u32,
     pub still: bool,
     pub scene: Scene,
+}
+
+// A scene with no joints and no bodies, for a caller to fill.
+pub fn empty_scene(context: StepContext) -> Scene
+    ensures { λ r. ⌜ r ≡ D.emptyScene context ⌝ }
+{
+    Scene {
+        joints: [UNUSED_JOINT; 32],
+        bodies: [IDENTITY_BODY_STATE; 32],
+        joint_count: 0,
+        body_count: 0,
+        context,
+    }
 }

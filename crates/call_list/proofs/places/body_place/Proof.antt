@@ -11,7 +11,7 @@ use mir.Val.{Fits, SFits, toZ, ofZ}
 use mir.ValLaws.{toZ-ofZ}
 use borrow.Author.Tests.{lt-ltb, le-ltb, ltb-true, ltb-false}
 use Rattle.call_list.specs.Places.{bodyPlace}
-use Rattle.call_list.proofs.Elements.{less-back}
+use Rattle.joint.proofs.Signs.{less-back}
 use Rattle.call_list.proofs.places.body_place.Statement.{statement}
 use Rattle.call_list.proofs.places.body_place.Tie as tie
 

@@ -1,13 +1,13 @@
--- `places::indices_of` equals its definition, case by case. Assumes nothing.
-use mathlib.Core.Path.{_≡_, refl, sym, ap, _∙_}
+-- `index::indices_of` equals its definition, case by case. Assumes nothing.
+use mathlib.Core.Path.{sym, ap, _∙_}
 use mir.Syntax.{w32}
 use mir.Val.{SFits}
 use mir.ValLaws.{toZ-ofZ}
 use borrow.Author.Needs.{needs}
-use Rattle.call_list.specs.Places.{indicesOf}
-use Rattle.call_list.proofs.Elements.{tag-other}
-use Rattle.call_list.proofs.places.indices_of.Statement.{statement}
-use Rattle.call_list.proofs.places.indices_of.Tie as tie
+use Rattle.joint.specs.Index.{indicesOf}
+use Rattle.joint.proofs.Signs.{tag-other}
+use Rattle.joint.proofs.index.indices_of.Statement.{statement}
+use Rattle.joint.proofs.index.indices_of.Tie as tie
 
 enum-known-union- : tie.Need-enum-known-union-
 enum-known-union- c = search needs

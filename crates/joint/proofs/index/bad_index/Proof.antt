@@ -1,19 +1,19 @@
--- `check::bad_index` equals its definition. Assumes nothing.
+-- `index::bad_index` equals its definition. Assumes nothing.
 use mathlib.Core.Path.{_≡_, refl}
-use mathlib.Core.Bool.{Bool, true, false, true≢false, false≢true}
-use Prim.Native.Nat.{ℕ, zero, suc, _<_}
+use mathlib.Core.Bool.{true, false, true≢false, false≢true}
+use Prim.Native.Nat.{ℕ, zero, suc}
 use native.Mathlib.Omega.{arith}
 use lib.Dec.{T, leb}
 use lib.IntN.{ℤ, pos, negsuc, natAbs}
 use lib.Signed.{nonNeg, ltZ}
-use mir.Syntax.{w32}
-use mir.Val.{Fits, SFits, toZ, ofZ}
+use mir.Syntax.{w32, w64}
+use mir.Val.{Fits, SFits}
 use mir.ValLaws.{toZ-ofZ}
 use borrow.Author.Tests.{ltb-true, ltb-false}
-use Rattle.scene.specs.Plain.{badIndex}
-use Rattle.call_list.proofs.Elements.{less-back}
-use Rattle.call_list.proofs.check.bad_index.Statement.{statement}
-use Rattle.call_list.proofs.check.bad_index.Tie as tie
+use Rattle.joint.specs.Index.{badIndex}
+use Rattle.joint.proofs.Signs.{less-back}
+use Rattle.joint.proofs.index.bad_index.Statement.{statement}
+use Rattle.joint.proofs.index.bad_index.Tie as tie
 
 below : (n : ℕ) (z : ℤ) → ltZ z (negsuc 0) ≡ true → true ≡ badIndex n z
 below n (pos i) h = absurd (false≢true h)
@@ -25,7 +25,7 @@ none n (pos i) g h = absurd (omega (arith, ltb-true i 0 h))
 none n (negsuc zero) g h = refl
 none n (negsuc (suc i)) g h = absurd (omega (arith, ltb-false 0 (suc i) g))
 
-at : (n : ℕ) (z : ℤ) → ltZ z (pos 0) ≡ false → SFits w32 z → T (nonNeg z) × Fits w32 (natAbs z) × (leb n (natAbs z) ≡ badIndex n z)
+at : (n : ℕ) (z : ℤ) → ltZ z (pos 0) ≡ false → SFits w32 z → T (nonNeg z) × Fits w64 (natAbs z) × (leb n (natAbs z) ≡ badIndex n z)
 at n (pos i) h f = (tt, record { fits = omega (arith, f .sfits) }, refl)
 at n (negsuc i) h f = absurd (true≢false h)
 

@@ -1,0 +1,11 @@
+pub mod Again
+pub mod Lent
+pub mod Pure
+pub mod Rows
+pub mod Calls
+pub mod DirectWalk
+pub mod Thin
+pub mod ThinWarmStart
+pub mod ThinSolve
+pub mod Signs
+pub mod Planned

@@ -1,0 +1,90 @@
+-- Document 01's direct call on lent memory: the answer, the joint and the states as it leaves them, for every joint and every list of states. What a joint names
+-- and how a body is read and stored are the scene's definitions. Definitions only. Assumes nothing.
+use mathlib.Core.Path.{_≡_}
+use mathlib.Core.Bool.{Bool, cond}
+use mathlib.Core.List.{List}
+use Prim.Native.Nat.{ℕ}
+use lib.Dec.{eqb}
+use lib.ListN.{length}
+use Rattle.math_functions.specs.Float as Float
+use Rattle.solver.specs.declared.StepContext.{StepContext}
+use Rattle.records.specs.declared.body.BodyState.{BodyState}
+use Rattle.records.specs.declared.joint.JointUnion.{JointUnion}
+use Rattle.records.specs.declared.joint.JointSim.{JointSim}
+use Rattle.constraint.specs.Answer.{jointSim}
+use Rattle.joint.specs.declared.stage.Staged.{Staged}
+use Rattle.joint.specs.Stage.{stageJoint}
+use Rattle.joint.specs.Index.{caseOf, indexA, indexB, indexCause}
+use Rattle.scene.specs.Scene.{stateAt}
+use Rattle.scene.specs.Plain.{storeBoth}
+use Rattle.direct.specs.declared.Answer.{Answer}
+use Rattle.direct.specs.declared.call.Call.{Call}
+
+-- ---- what is called
+
+-- a kind, by the number of its case
+abbrev pub revolute : ℕ
+revolute = 0
+
+abbrev pub spherical : ℕ
+spherical = 1
+
+abbrev pub weld : ℕ
+weld = 2
+
+-- a warm start of a kind: stage 0, which reads no step context
+abbrev pub warmStart : ℕ → Call
+warmStart kind = record { kind = kind; stage = 0; h = Float.zero; «inv_h» = Float.zero }
+
+-- a solve of a kind: stage 1 with bias, stage 2 without
+abbrev pub solve : ℕ → StepContext → Bool → Call
+solve kind context useBias = record { kind = kind; stage = cond useBias 1 2; h = context .h; «inv_h» = context .«inv_h» }
+
+-- ---- its tests
+
+-- 'a direct stage call tests 1, 2, 3': the first cause that holds, or 0. 1 is 'joint's case is not the kind called'; 2 and 3 are 'first body index below -1, or
+-- at or above the body count' and 'second body index likewise'
+unfoldable pub cause : ℕ → JointUnion → ℕ → ℕ
+cause kind union bodyCount =
+    cond (eqb (caseOf union) kind) (indexCause bodyCount union) 1
+
+-- ---- what it does
+
+-- the answer, and the joint and the states as they are left
+pub record Outcome : Type 0 where
+  pub answer : Answer
+  pub joint : JointSim
+  pub states : List BodyState
+
+-- 'a direct stage call has place 0'
+abbrev pub answerOf : ℕ → Answer
+answerOf number = record { number = number; place = 0 }
+
+-- a refusal leaves all as it was
+abbrev pub refused : ℕ → JointSim → List BodyState → Outcome
+refused number joint states = record { answer = answerOf number; joint = joint; states = states }
+
+-- the stage of the joint, on the states at its two indices: 'both states are read first', and -1 reads the identity state
+abbrev pub stageAt : Call → JointSim → List BodyState → Staged
+stageAt call joint states =
+    let union = joint .«union_» in
+    stageJoint union (joint .base) (call .h) (call .«inv_h») (stateAt states (indexA union)) (stateAt states (indexB union)) (call .stage)
+
+-- 'stored back, A then B, only if dynamic'; -1 is never written, and only velocities change
+abbrev pub done : JointSim → List BodyState → Staged → Outcome
+done joint states r =
+    record {
+      answer = answerOf 0;
+      joint = jointSim (joint .base) (r .«union_»);
+      states = storeBoth states (joint .«union_») (r .velocities);
+    }
+
+-- a direct call: 'its body count is the length of the lent slice'
+unfoldable pub directCall : Call → JointSim → List BodyState → Outcome
+directCall call joint states =
+    let number = cause (call .kind) (joint .«union_») (length states) in
+    cond (eqb number 0) (done joint states (stageAt call joint states)) (refused number joint states)
+
+-- a function answers `r` and leaves the joint and the states as the outcome says: all of each is fixed
+abbrev pub Leaves : Outcome → Answer → JointSim → List BodyState → Type 0
+Leaves outcome r joint states = (r ≡ outcome .answer) × (joint ≡ outcome .joint) × (states ≡ outcome .states)

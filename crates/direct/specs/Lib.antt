@@ -1,0 +1,4 @@
+pub mod Direct
+pub mod Steps
+pub mod Claims
+pub mod Proved

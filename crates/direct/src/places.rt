@@ -1,0 +1,74 @@
+// The tests of a direct call, and where its two states lie.
+ghost use mathlib.Core.Path.{_≡_};
+ghost use Rattle.joint.specs.Index.{caseOf};
+ghost use Rattle.direct.specs.Direct as D;
+ghost use Rattle.direct.specs.Steps as S;
+use crate::Answer;
+use crate::call::Call;
+use joint::index::index_cause;
+use joint::index::indices_of;
+use records::body::BodyState;
+use records::body::IDENTITY_BODY_STATE;
+use records::joint::JointSim;
+use records::joint::JointUnion;
+
+// The answer; the places of the two states among n, where n is the place of none; and what none
+// reads.
+pub struct Places {
+    pub answer: Answer,
+    pub a: usize,
+    pub b: usize,
+    pub none: BodyState,
+}
+
+pub fn case_of(union_: JointUnion) -> u8
+    ensures { λ r. ⌜ r ≡ caseOf «union_» ⌝ }
+{
+    match union_ {
+        JointUnion::Revolute(_) => 0,
+        JointUnion::Spherical(_) => 1,
+        JointUnion::Weld(_) => 2,
+        JointUnion::Other => 3,
+    }
+}
+
+// The first cause of a refusal, or 0.
+pub fn cause_of(kind: u8, union_: JointUnion, n: usize) -> u32
+    ensures { λ r. ⌜ r ≡ D.cause kind «union_» n ⌝ }
+{
+    if case_of(union_) != kind {
+        return 1;
+    }
+    index_cause(n, union_)
+}
+
+pub fn place_of(n: usize, index: i32) -> usize
+    ensures { λ r. ⌜ r ≡ S.placeOf n index ⌝ }
+{
+    if index < 0 {
+        return n;
+    }
+    index as usize
+}
+
+// Where a call is refused, both places are none's.
+pub fn find_places(call: Call, joint: JointSim, n: usize) -> Places
+    ensures { λ r. ⌜ r ≡ S.placesOf call joint n ⌝ }
+{
+    let union_ = joint.union_;
+    let number = cause_of(call.kind, union_, n);
+    let answer = Answer { number, place: 0 };
+    let none = IDENTITY_BODY_STATE;
+    if number != 0 {
+        return Places {
+            answer,
+            a: n,
+            b: n,
+            none,
+        };
+    }
+    let i = indices_of(union_);
+    let a = place_of(n, i.a);
+    let b = place_of(n, i.b);
+    Places { answer, a, b, none }
+}
