@@ -1,5 +1,6 @@
 -- Laws on single elements of the arrays: signed indices, a body's place, and a turn of the run's loop. Assumes nothing.
 use mathlib.Core.Path.{_≡_, refl, sym, ap, _∙_}
+use mathlib.Core.Logic.{_≢_}
 use mathlib.Core.Bool.{Bool, true, false, cond}
 use mathlib.Core.List.{List, [], _∷_, _++_, map, append-assoc, append-nil}
 use Prim.Native.Nat.{ℕ, zero, suc, _+_, _≤_, _<_, min}
@@ -7,16 +8,14 @@ use native.Mathlib.Nat.{le-of-suc-le-suc}
 use native.Mathlib.Numerals.{add-one}
 use native.Mathlib.Omega.{arith}
 use lib.Dec.{ltb}
+use lib.Ieee.{Float}
 use lib.IntN.{ℤ, pos, negsuc}
 use lib.ListN.{length, getD, set, take, drop, replicate, length-map, length-set, length-take, List·getD-append, List·getD-eq-default}
-use lib.Seq.{set-out, set-at, set-append-left, take-suc, take-all, drop-cons, getD-append-add}
-use lib.Signed.{ltZ}
+use lib.Seq.{set-getD, set-out, set-at, set-append-left, take-suc, take-all, drop-cons, getD-append-add}
 use mir.Syntax.{w32}
 use mir.Val.{SFits, toZ, ofZ}
 use mir.ValLaws.{toZ-ofZ}
-use borrow.Author.Tests.{lt-ltb, ltb-true, ltb-false}
-use denote.Enum.Declared.{tagOf}
-use Rattle.records.proofs.joint.JointUnion.{the-type}
+use borrow.Author.Tests.{eq-eqb, lt-ltb, ltb-true, ltb-false}
 use Rattle.records.proofs.joint.JointSim as JointField
 use Rattle.records.proofs.body.BodyState as BodyField
 use Rattle.math_functions.specs.declared.types.Vec3.{Vec3}
@@ -24,14 +23,17 @@ use Rattle.solver.specs.declared.StepContext.{StepContext}
 use Rattle.records.specs.declared.body.BodyState.{BodyState}
 use Rattle.records.specs.declared.joint.JointUnion.{JointUnion}
 use Rattle.records.specs.declared.joint.JointUnion.the-variants.{Revolute, Spherical, Weld, Other}
+use Rattle.records.specs.declared.joint.JointBase.{JointBase}
 use Rattle.records.specs.declared.joint.JointSim.{JointSim}
 use Rattle.records.specs.Body.{isDynamic, storeVelocities, identityBodyState}
+use Rattle.constraint.specs.declared.velocity.Velocities.{Velocities}
+use Rattle.constraint.specs.Velocity.{velocitiesOf}
 use Rattle.constraint.specs.Answer.{jointSim}
 use Rattle.joint.specs.declared.stage.Staged.{Staged}
-use Rattle.joint.specs.Stage.{stageJoint}
+use Rattle.joint.specs.Stage.{staged, stageJoint, stageAs}
 use Rattle.scene.specs.declared.Scene.{Scene}
 use Rattle.records.specs.Joint.{unusedJoint}
-use Rattle.joint.specs.Index.{indexA, indexB, badIndex}
+use Rattle.joint.specs.Index.{caseOf, indexA, indexB}
 use Rattle.scene.specs.Scene.{stateAt, store}
 use Rattle.scene.specs.Calls.{call}
 use Rattle.scene.specs.Plain.{storeBoth, step}
@@ -130,8 +132,47 @@ store-long us (negsuc n) v w h = h
 abbrev pub remade : Scene → List BodyState → List JointSim → Scene
 remade s bodies joints = record { joints = joints; bodies = bodies; «joint_count» = s .«joint_count»; «body_count» = s .«body_count»; context = s .context }
 
+-- what the loop's match leaves: the joint of the slot as the stage r left it, and the velocities
+pub record Worked (t : Scene) (at : ℕ) (d : JointSim) (r : Staged) (next : Scene) (v : Velocities) : Type 0 where
+  pub stored : next ≡ remade t (t .bodies) (set (t .joints) at (jointSim (getD (t .joints) at d .base) (r .«union_»)))
+  pub moved : v ≡ r .velocities
+
+module _ (t : Scene) (at : ℕ) (d : JointSim) (h i : Float) (a b : BodyState) (stage c : ℕ) (next : Scene) (v : Velocities) where
+  abbrev j : JointSim
+  j = getD (t .joints) at d
+
+  -- the stage of the joint, whichever kind it is
+  abbrev pub its-stage : Staged
+  its-stage = stageJoint (j .«union_») (j .base) h i a b stage
+
+  -- in the arm of a kind, the joint is of that kind
+  pub worked-as : (k : ℕ) (r : Staged) → c ≡ caseOf (j .«union_») → c ≡ k → r ≡ stageAs k (j .«union_») (j .base) h i a b stage
+      → next ≡ remade t (t .bodies) (set (t .joints) at (jointSim (j .base) (r .«union_»)))
+      → v ≡ r .velocities
+      → Worked t at d its-stage next v
+  unfolding stageAs
+  worked-as k r e f g n m =
+      let same : r ≡ its-stage = g ∙ rw (eq-eqb (caseOf (j .«union_»)) k (sym e ∙ f)) in
+      record { stored = n ∙ ap (λ x. remade t (t .bodies) (set (t .joints) at (jointSim (j .base) (x .«union_»)))) same; moved = m ∙ ap (λ x. x .velocities) same }
+
+  other : (u : JointUnion) → c ≡ caseOf u → c ≢ 0 → c ≢ 1 → c ≢ 2 → stageJoint u (j .base) h i a b stage ≡ staged u (velocitiesOf a b)
+  unfolding stageJoint
+  other (Revolute r) e p q s = absurd (p e)
+  other (Spherical r) e p q s = absurd (q e)
+  other (Weld r) e p q s = absurd (s e)
+  other Other e p q s = refl
+
+  -- in the arm of no kind nothing is worked
+  pub worked-none : c ≡ caseOf (j .«union_») → c ≢ 0 → c ≢ 1 → c ≢ 2 → next ≡ t → v ≡ velocitiesOf a b → Worked t at d its-stage next v
+  worked-none e p q s n m =
+      let same = other (j .«union_») e p q s in
+      record {
+        stored = n ∙ ap (remade t (t .bodies)) (sym (set-getD (t .joints) at d)) ∙ ap (λ x. remade t (t .bodies) (set (t .joints) at (jointSim (j .base) (x .«union_»)))) (sym same);
+        moved = m ∙ ap (λ x. x .velocities) (sym same);
+      }
+
 -- from what the code's calls gave, a turn is one call of the plain run
-pub turn-is : (t : Scene) (us ws : List BodyState) (slot stage at pa pb : ℕ) (d : JointSim) (e : BodyState) (na nb : BodyState) (r : Staged) (x : StepContext)
+pub turn-is : (t : Scene) (us ws : List BodyState) (slot stage at pa pb : ℕ) (d : JointSim) (e : BodyState) (na nb : BodyState) (r : Staged) (x : StepContext) (v : Velocities)
     → length us ≡ 32
     → length (t .joints) ≡ 32
     → ws ≡ withIdentity us
@@ -141,16 +182,19 @@ pub turn-is : (t : Scene) (us ws : List BodyState) (slot stage at pa pb : ℕ) (
     → pa ≡ bodyPlace (indexA (getD (t .joints) at d .«union_»))
     → pb ≡ bodyPlace (indexB (getD (t .joints) at d .«union_»))
     → r ≡ stageJoint (getD (t .joints) at d .«union_») (getD (t .joints) at d .base) (x .h) (x .«inv_h») (getD ws pa e) (getD ws pb e) stage
-    → na ≡ storeVelocities (getD ws pa e) (r .velocities .«v_a») (r .velocities .«w_a»)
-    → nb ≡ storeVelocities (getD (set ws pa na) pb e) (r .velocities .«v_b») (r .velocities .«w_b»)
+    → v ≡ r .velocities
+    → na ≡ storeVelocities (getD ws pa e) (v .«v_a») (v .«w_a»)
+    → nb ≡ storeVelocities (getD (set ws pa na) pb e) (v .«v_b») (v .«w_b»)
     → (us' : List BodyState) × (set (set ws pa na) pb nb ≡ withIdentity us') × (length us' ≡ 32)
     × (remade t us' (set (t .joints) at (jointSim (getD (t .joints) at d .base) (r .«union_»))) ≡ step (call slot stage) (remade t us (t .joints)))
 unfolding step
-turn-is t us ws slot stage at pa pb d e na nb r x lb lj ew h ex ha hpa hpb er ka kb =
+turn-is t us ws slot stage at pa pb d e na nb r x v₀ lb lj ew h ex ha hpa hpb er ev ka₀ kb₀ =
     let j = getD (t .joints) at d in
     let z = indexA (j .«union_») in
     let y = indexB (j .«union_») in
     let v = r .velocities in
+    let ka : na ≡ storeVelocities (getD ws pa e) (v .«v_a») (v .«w_a») = ka₀ ∙ ap (λ y. storeVelocities (getD ws pa e) (y .«v_a») (y .«w_a»)) ev in
+    let kb : nb ≡ storeVelocities (getD (set ws pa na) pb e) (v .«v_b») (v .«w_b») = kb₀ ∙ ap (λ y. storeVelocities (getD (set ws pa na) pb e) (y .«v_b») (y .«w_b»)) ev in
     let q : at ≡ slot = ha ∙ joint-place-in slot h in
     let one = store us z (v .«v_a») (v .«w_a») in
     let f : set ws pa na ≡ withIdentity one = rw (ew, hpa) (kept-is us lb z na e (v .«v_a») (v .«w_a») (rw (ew, hpa) at ka)) in

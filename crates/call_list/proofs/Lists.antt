@@ -1,5 +1,5 @@
 -- Laws on a list of calls, as the loops go through its bytes. Assumes nothing.
-use mathlib.Core.Path.{_≡_, refl, sym, ap, _∙_}
+use mathlib.Core.Path.{_≡_, refl, sym, ap, subst, _∙_}
 use mathlib.Core.Logic.{_≢_}
 use mathlib.Core.Bool.{Bool, true, false, cond, _||_, _&&_}
 use mathlib.Core.List.{List, [], _∷_, _++_}
@@ -135,11 +135,13 @@ module _ (s : Scene) (l : List ℕ) (t : Scene) (bs : List BodyState) (i : ℕ) 
   pub slot-low : i + 1 < length l → s .«joint_count» ≤ 32 → getD l i 0 < 32
   slot-low h few = omega (arith, slots-here h .0)
 
-  pub midst-more : (us : List BodyState) (ws : List BodyState) (at : ℕ) (n : JointSim) → i + 1 < length l → ws ≡ withIdentity us → length us ≡ 32
+  pub midst-more : (us : List BodyState) (ws : List BodyState) (at : ℕ) (n : JointSim) (next : Scene) → i + 1 < length l → ws ≡ withIdentity us → length us ≡ 32
       → remade t us (set (t .joints) at n) ≡ step (call (getD l i 0) (getD l (i + 1) 0)) (remade t (w .us) (t .joints))
-      → Midst s l (remade t (t .bodies) (set (t .joints) at n)) ws (i + 2)
-  midst-more us ws at n h holds long g =
-      record {
+      → next ≡ remade t (t .bodies) (set (t .joints) at n)
+      → Midst s l next ws (i + 2)
+  midst-more us ws at n next h holds long g e =
+      subst (λ x. Midst s l x ws (i + 2)) (sym e)
+      (record {
         us = us;
         holds = holds;
         long-bodies = long;
@@ -147,7 +149,7 @@ module _ (s : Scene) (l : List ℕ) (t : Scene) (bs : List BodyState) (i : ℕ) 
         context = w .context;
         slots = slots-here h .1;
         made = ap (runCalls (calls (drop (i + 2) l))) g ∙ (rw (calls-here l i h) at (w .made));
-      }
+      })
 
   pub midst-done : (are : List BodyState) → length l ≤ i → are ≡ take 32 bs → remade t are (t .joints) ≡ runCalls (calls l) s
   unfolding withIdentity

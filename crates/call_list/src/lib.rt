@@ -8,7 +8,11 @@ use crate::places::places_of;
 use crate::places::with_identity;
 use crate::places::without_identity;
 use crate::still::is_still;
-use joint::stage::stage_joint;
+use constraint::velocity::velocities_of;
+use joint::index::case_of;
+use joint::stage::stage_as_revolute;
+use joint::stage::stage_as_spherical;
+use joint::stage::stage_as_weld;
 use records::body::store_velocities;
 use records::joint::JointSim;
 use scene::Run;
@@ -33,27 +37,52 @@ fn run_calls(scene: Scene, list: &[u8]) -> Scene
     let mut i: usize = 0;
     while i < list.len() {
         let slot = joint_place(list[i]);
-        let joint = next.joints[slot];
-        let union_ = joint.union_;
-        let places = places_of(union_);
+        let stage = list[i + 1];
+        let named = next.joints[slot];
+        let named_union = named.union_;
+        let places = places_of(named_union);
         let place_a = places.a;
         let place_b = places.b;
         let a = bodies[place_a];
         let b = bodies[place_b];
-        let s = stage_joint(joint.base, union_, h, inv_h, a, b, list[i + 1]);
-        let v = s.velocities;
+        let mut v = velocities_of(a, b);
+        // each kind reads and stores the joint by itself, so that only what it changes is written
+        match case_of(named_union) {
+            0 => {
+                let joint = next.joints[slot];
+                let base = joint.base;
+                let union_ = joint.union_;
+                let s = stage_as_revolute(base, union_, h, inv_h, a, b, stage);
+                let left = s.union_;
+                next.joints[slot] = JointSim { base, union_: left };
+                v = s.velocities;
+            }
+            1 => {
+                let joint = next.joints[slot];
+                let base = joint.base;
+                let union_ = joint.union_;
+                let s = stage_as_spherical(base, union_, h, inv_h, a, b, stage);
+                let left = s.union_;
+                next.joints[slot] = JointSim { base, union_: left };
+                v = s.velocities;
+            }
+            2 => {
+                let joint = next.joints[slot];
+                let base = joint.base;
+                let union_ = joint.union_;
+                let s = stage_as_weld(base, union_, h, inv_h, a, b, stage);
+                let left = s.union_;
+                next.joints[slot] = JointSim { base, union_: left };
+                v = s.velocities;
+            }
+            _ => {}
+        }
         let stored_a = store_velocities(a, v.v_a, v.w_a);
         bodies[place_a] = stored_a;
         // read again: both indices may name one body
         let again = bodies[place_b];
         let stored_b = store_velocities(again, v.v_b, v.w_b);
         bodies[place_b] = stored_b;
-        let base = joint.base;
-        let staged = s.union_;
-        next.joints[slot] = JointSim {
-            base,
-            union_: staged,
-        };
         i += 2;
     }
     let end = without_identity(bodies);

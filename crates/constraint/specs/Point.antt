@@ -18,13 +18,13 @@ pointBias isSoft s rA rB dcA dcB deltaCenter =
     let separation = add (add (sub dcB dcA) (sub rB rA)) deltaCenter in
     cond isSoft (softBias3 s separation) rigid3
 
--- k with d added to each entry of the diagonal
-abbrev pub addDiagonal : Matrix3 → Float → Matrix3
-addDiagonal k d =
+-- the matrix with a mass added on its diagonal
+abbrev pub addMass : Matrix3 → Float → Matrix3
+addMass k mass =
     matrix3
-    (vec3 (k .cx .x ⊕ d) (k .cx .y) (k .cx .z))
-    (vec3 (k .cy .x) (k .cy .y ⊕ d) (k .cy .z))
-    (vec3 (k .cz .x) (k .cz .y) (k .cz .z ⊕ d))
+    (vec3 (k .cx .x ⊕ mass) (k .cx .y) (k .cx .z))
+    (vec3 (k .cy .x) (k .cy .y ⊕ mass) (k .cy .z))
+    (vec3 (k .cz .x) (k .cz .y) (k .cz .z ⊕ mass))
 
 unfoldable pub pointMass : InvMasses → Vec3 → Vec3 → Matrix3
 pointMass m rA rB =
@@ -32,7 +32,7 @@ pointMass m rA rB =
     let sB = skew rB in
     let kA = mulMm sA (mulMm (m .«i_a») sA) in
     let kB = mulMm sB (mulMm (m .«i_b») sB) in
-    addDiagonal (negateMat3 (addMm kA kB)) (m .«m_a» ⊕ m .«m_b»)
+    addMass (negateMat3 (addMm kA kB)) (m .«m_a» ⊕ m .«m_b»)
 
 -- revolute and spherical subtract v_a, then w_a × r_a
 unfoldable pub pointCdot : Vec3 → Vec3 → Velocities → Vec3

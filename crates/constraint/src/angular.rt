@@ -3,7 +3,6 @@ ghost use mathlib.Core.Path.{_≡_};
 ghost use Rattle.constraint.specs.Angular as D;
 use crate::soft::SoftBias;
 use crate::soft::SoftBias3;
-use crate::soft::limit_bias;
 use crate::soft::limit_impulse;
 use crate::soft::soft_impulse3;
 use crate::velocity::InvMasses;
@@ -12,14 +11,11 @@ use crate::velocity::apply_angular;
 use crate::velocity::apply_axial;
 use crate::velocity::apply_axial_flipped;
 use math_functions::matrix::mul_mv;
-use math_functions::quat::get_twist_angle;
 use math_functions::types::Matrix3;
-use math_functions::types::Quat;
 use math_functions::types::Vec3;
 use math_functions::vector::add;
 use math_functions::vector::dot;
 use math_functions::vector::sub;
-use solver::Softness;
 
 // What a row of one dimension leaves: its impulse, and the velocities.
 pub struct AxialRow {
@@ -104,44 +100,6 @@ pub fn angular_row(
     let velocities = apply_angular(m, delta_impulse, v);
     Row3 {
         impulse,
-        velocities,
-    }
-}
-
-// The lower and the upper limit of the twist angle, revolute's and spherical's.
-pub fn twist_limit_rows(
-    worked: bool,
-    rel_q: Quat,
-    lower_angle: f32,
-    upper_angle: f32,
-    softness: Softness,
-    inv_h: f32,
-    use_bias: bool,
-    mass: f32,
-    axis: Vec3,
-    old_lower: f32,
-    old_upper: f32,
-    m: InvMasses,
-    v: Velocities,
-) -> LimitRows
-    ensures { λ r. ⌜ r ≡ D.twistLimitRows worked «rel_q» «lower_angle» «upper_angle» softness «inv_h» «use_bias» mass axis «old_lower» «old_upper» m v ⌝ }
-{
-    if !worked {
-        return LimitRows {
-            lower_impulse: old_lower,
-            upper_impulse: old_upper,
-            velocities: v,
-        };
-    }
-    let angle = get_twist_angle(rel_q);
-    let lower_bias = limit_bias(angle - lower_angle, softness, inv_h, use_bias);
-    let lower = lower_limit_row(lower_bias, mass, axis, old_lower, m, v);
-    let upper_bias = limit_bias(upper_angle - angle, softness, inv_h, use_bias);
-    let upper = upper_limit_row(upper_bias, mass, axis, old_upper, m, lower.velocities);
-    let velocities = upper.velocities;
-    LimitRows {
-        lower_impulse: lower.impulse,
-        upper_impulse: upper.impulse,
         velocities,
     }
 }

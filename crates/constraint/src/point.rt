@@ -4,12 +4,7 @@ ghost use Rattle.constraint.specs.Point as D;
 use crate::soft::RIGID3;
 use crate::soft::SoftBias3;
 use crate::soft::soft_bias3;
-use crate::velocity::InvMasses;
 use crate::velocity::Velocities;
-use math_functions::matrix::add_mm;
-use math_functions::matrix::mul_mm;
-use math_functions::matrix::negate_mat3;
-use math_functions::matrix::skew;
 use math_functions::types::Matrix3;
 use math_functions::types::Vec3;
 use math_functions::vector::add;
@@ -37,22 +32,19 @@ pub fn point_bias(
     }
 }
 
+// The matrix with a mass added on its diagonal, which makes the matrix of a point row:
 // K = [(1/m1 + 1/m2) * eye(2) - skew(r1) * invI1 * skew(r1) - skew(r2) * invI2 * skew(r2)]
-pub fn point_mass(m: InvMasses, r_a: Vec3, r_b: Vec3) -> Matrix3
-    ensures { λ r. ⌜ r ≡ D.pointMass m «r_a» «r_b» ⌝ }
+pub fn add_mass(k: Matrix3, mass: f32) -> Matrix3
+    ensures { λ r. ⌜ r ≡ D.addMass k mass ⌝ }
 {
-    let s_a = skew(r_a);
-    let s_b = skew(r_b);
-    let k_a = mul_mm(s_a, mul_mm(m.i_a, s_a));
-    let k_b = mul_mm(s_b, mul_mm(m.i_b, s_b));
-    let mut k = negate_mat3(add_mm(k_a, k_b));
-    let x = k.cx.x + (m.m_a + m.m_b);
-    let y = k.cy.y + (m.m_a + m.m_b);
-    let z = k.cz.z + (m.m_a + m.m_b);
-    k.cx.x = x;
-    k.cy.y = y;
-    k.cz.z = z;
-    k
+    let mut out = k;
+    let x = k.cx.x + mass;
+    let y = k.cy.y + mass;
+    let z = k.cz.z + mass;
+    out.cx.x = x;
+    out.cy.y = y;
+    out.cz.z = z;
+    out
 }
 
 // The velocity error at the anchors, as revolute and spherical subtract it: v_a, then w_a x r_a.

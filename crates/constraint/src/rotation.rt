@@ -12,7 +12,8 @@ pub struct RelativeRotation {
     pub rel_q: Quat,
 }
 
-// q, or -q where q lies on the other side from p. This keeps the rotation angle in [-pi, pi].
+// q, or -q where q lies on the other side from p, as revolute and weld joints take the second
+// quaternion. This keeps the rotation angle in [-pi, pi].
 pub fn same_polarity(p: Quat, q: Quat) -> Quat
     ensures { λ r. ⌜ r ≡ D.samePolarity p q ⌝ }
 {
@@ -34,21 +35,6 @@ pub fn relative_rotation(
 {
     let quat_a = mul_quat(delta_a, frame_a);
     let quat_b = mul_quat(delta_b, frame_b);
-    let rel_q = inv_mul_quat(quat_a, quat_b);
-    RelativeRotation { quat_a, rel_q }
-}
-
-// Revolute and weld joints flip it to the first one's polarity.
-pub fn flipped_relative_rotation(
-    delta_a: Quat,
-    frame_a: Quat,
-    delta_b: Quat,
-    frame_b: Quat,
-) -> RelativeRotation
-    ensures { λ r. ⌜ r ≡ D.flippedRelativeRotation «delta_a» «frame_a» «delta_b» «frame_b» ⌝ }
-{
-    let quat_a = mul_quat(delta_a, frame_a);
-    let quat_b = same_polarity(quat_a, mul_quat(delta_b, frame_b));
     let rel_q = inv_mul_quat(quat_a, quat_b);
     RelativeRotation { quat_a, rel_q }
 }

@@ -1,20 +1,20 @@
 -- The steps of the code do what a direct call is defined to do. Assumes nothing.
 --     finish       what the steps leave.        planned      it is the outcome
-use mathlib.Core.Path.{_≡_, refl, sym, ap, _∙_}
+use mathlib.Core.Path.{_≡_, refl, ap, _∙_}
 use mathlib.Core.Bool.{Bool, true, false, cond}
-use mathlib.Core.List.{List, [], _∷_}
-use Prim.Native.Nat.{ℕ, zero, suc}
+use mathlib.Core.List.{List}
+use Prim.Native.Nat.{ℕ}
 use native.Mathlib.Nat.{le-refl}
 use native.Mathlib.Omega.{arith}
 use lib.Dec.{eqb}
 use lib.IntN.{ℤ, pos, negsuc}
-use lib.ListN.{length, getD, set, length-set, List·getD-eq-default}
+use lib.ListN.{length, getD, set, List·getD-eq-default}
 use lib.Seq.{set-out}
 use borrow.Author.Tests.{eqb-true}
 use Rattle.math_functions.specs.declared.types.Vec3.{Vec3}
 use Rattle.records.specs.declared.body.BodyState.{BodyState}
 use Rattle.records.specs.declared.joint.JointSim.{JointSim}
-use Rattle.records.specs.Body.{isDynamic, withVelocities, storeVelocities, identityBodyState}
+use Rattle.records.specs.Body.{storeVelocities, identityBodyState}
 use Rattle.constraint.specs.Answer.{jointSim}
 use Rattle.joint.specs.declared.stage.Staged.{Staged}
 use Rattle.joint.specs.Stage.{stageJoint}
@@ -26,35 +26,11 @@ use Rattle.direct.specs.declared.call.Call.{Call}
 use Rattle.direct.specs.declared.places.Places.{Places}
 use Rattle.direct.specs.declared.work.Worked.{Worked}
 use Rattle.direct.specs.Direct.{cause, Outcome, answerOf, refused, done, stageAt, directCall}
+use Rattle.direct.specs.Stored.{read-first, store-long}
 use Rattle.direct.specs.Steps.{placeOf, placesAt, placesOf, workedBy, workCall, readStates, writeStates}
 
 abbrev pub finish : Places → Worked → List BodyState → Outcome
 finish p w states = record { answer = p .answer; joint = w .joint; states = writeStates p (w .pair) states }
-
--- ---- a state that is stored twice
-
--- the second store is all that is left of the first
-over : (x : BodyState) (v w v′ w′ : Vec3) → storeVelocities (storeVelocities x v w) v′ w′ ≡ storeVelocities x v′ w′
-unfolding storeVelocities isDynamic
-over x v w v′ w′ = by (isDynamic x) refl
-  where
-    by : (b : Bool) → isDynamic x ≡ b → storeVelocities (cond b (withVelocities x v w) x) v′ w′ ≡ storeVelocities x v′ w′
-    by true e = rw e
-    by false e = refl
-
-over-at : (s : List BodyState) (m k : ℕ) (d : BodyState) (v w v′ w′ : Vec3) → storeVelocities (getD (set s m (storeVelocities (getD s m d) v w)) k d) v′ w′ ≡ storeVelocities (getD s k d) v′ w′
-over-at [] m k d v w v′ w′ = refl
-over-at (x ∷ s) zero zero d v w v′ w′ = over x v w v′ w′
-over-at (x ∷ s) zero (suc k) d v w v′ w′ = refl
-over-at (x ∷ s) (suc m) zero d v w v′ w′ = refl
-over-at (x ∷ s) (suc m) (suc k) d v w v′ w′ = over-at s m k d v w v′ w′
-
--- what is stored at B is the same, whether B was read before A was stored or after
-read-first : (s : List BodyState) (i j : ℤ) (v w v′ w′ : Vec3) → storeVelocities (stateAt s j) v′ w′ ≡ storeVelocities (stateAt (store s i v w) j) v′ w′
-unfolding store
-read-first s (pos m) (pos k) v w v′ w′ = sym (over-at s m k identityBodyState v w v′ w′)
-read-first s (pos m) (negsuc k) v w v′ w′ = refl
-read-first s (negsuc m) j v w v′ w′ = refl
 
 -- ---- places
 
@@ -70,11 +46,6 @@ writes : (s : List BodyState) (n : ℕ) → length s ≡ n → (i : ℤ) (v w : 
 unfolding store
 writes s n e (pos k) v w = refl
 writes s n e (negsuc k) v w = out s n e _
-
-store-long : (s : List BodyState) (i : ℤ) (v w : Vec3) → length (store s i v w) ≡ length s
-unfolding store
-store-long s (pos k) v w = length-set s k _
-store-long s (negsuc k) v w = refl
 
 -- ---- the whole call
 

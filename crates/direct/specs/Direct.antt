@@ -1,7 +1,7 @@
 -- Document 01's direct call on lent memory: the answer, the joint and the states as it leaves them, for every joint and every list of states. What a joint names
 -- and how a body is read and stored are the scene's definitions. Definitions only. Assumes nothing.
 use mathlib.Core.Path.{_≡_}
-use mathlib.Core.Bool.{Bool, cond}
+use mathlib.Core.Bool.{Bool, false, cond}
 use mathlib.Core.List.{List}
 use Prim.Native.Nat.{ℕ}
 use lib.Dec.{eqb}
@@ -10,11 +10,12 @@ use Rattle.math_functions.specs.Float as Float
 use Rattle.solver.specs.declared.StepContext.{StepContext}
 use Rattle.records.specs.declared.body.BodyState.{BodyState}
 use Rattle.records.specs.declared.joint.JointUnion.{JointUnion}
+use Rattle.records.specs.declared.joint.JointUnion.the-variants.{Revolute, Spherical, Weld, Other}
 use Rattle.records.specs.declared.joint.JointSim.{JointSim}
 use Rattle.constraint.specs.Answer.{jointSim}
 use Rattle.joint.specs.declared.stage.Staged.{Staged}
 use Rattle.joint.specs.Stage.{stageJoint}
-use Rattle.joint.specs.Index.{caseOf, indexA, indexB, indexCause}
+use Rattle.joint.specs.Index.{indexA, indexB, indexCause}
 use Rattle.scene.specs.Scene.{stateAt}
 use Rattle.scene.specs.Plain.{storeBoth}
 use Rattle.direct.specs.declared.Answer.{Answer}
@@ -42,11 +43,17 @@ solve kind context useBias = record { kind = kind; stage = cond useBias 1 2; h =
 
 -- ---- its tests
 
--- 'a direct stage call tests 1, 2, 3': the first cause that holds, or 0. 1 is 'joint's case is not the kind called'; 2 and 3 are 'first body index below -1, or
--- at or above the body count' and 'second body index likewise'
+-- the joint's case is one of the three, and the kind called
+abbrev pub isOfKind : ℕ → JointUnion → Bool
+isOfKind kind (Revolute r) = eqb kind revolute
+isOfKind kind (Spherical r) = eqb kind spherical
+isOfKind kind (Weld r) = eqb kind weld
+isOfKind kind Other = false
+
+-- 'a direct stage call tests 1, 2, 3': the first cause that holds, or 0. 1 is 'joint's case is not the kind called, or not one of the three'; 2 and 3 are 'first
+-- body index below -1, or at or above the body count' and 'second body index likewise'
 unfoldable pub cause : ℕ → JointUnion → ℕ → ℕ
-cause kind union bodyCount =
-    cond (eqb (caseOf union) kind) (indexCause bodyCount union) 1
+cause kind union bodyCount = cond (isOfKind kind union) (indexCause bodyCount union) 1
 
 -- ---- what it does
 

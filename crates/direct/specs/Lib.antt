@@ -1,4 +1,6 @@
 pub mod Direct
 pub mod Steps
 pub mod Claims
+pub mod Stored
+pub mod OneCall
 pub mod Proved

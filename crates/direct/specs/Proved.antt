@@ -1,219 +1,143 @@
 -- The claims of Claims.antt, proved, each under its statement's name in small letters. Assumes nothing.
 use mathlib.Core.Path.{_≡_, refl, sym, ap, _∙_}
-use mathlib.Core.Logic.{inl, inr, _≢_}
-use mathlib.Core.Bool.{Bool, true, false, cond}
-use mathlib.Core.List.{List, [], _∷_}
-use Prim.Native.Nat.{ℕ, zero, suc, _≤_, _<_}
-use native.Mathlib.Nat.{le-of-suc-le-suc, not-suc-le-zero}
+use mathlib.Core.Logic.{inl, inr, ⊎-elim, _≢_}
+use mathlib.Core.Bool.{Bool, true, false, not, cond}
+use mathlib.Core.List.{List}
+use Prim.Native.Nat.{ℕ}
 use native.Mathlib.Omega.{arith}
 use lib.Dec.{eqb}
-use lib.Ieee.{Float}
-use lib.IntN.{ℤ, pos, negsuc}
-use lib.ListN.{length, getD, set, take}
-use lib.Seq.{getD-set-same, length-take-le}
-use borrow.Author.Tests.{eq-eqb, ne-eqb, eqb-true, eqb-false, le-ltb, lt-leb, leb-false}
-use Rattle.math_functions.specs.declared.types.Vec3.{Vec3}
-use Rattle.solver.specs.declared.StepContext.{StepContext}
+use lib.ListN.{length}
+use borrow.Author.Tests.{eqb-true, eqb-false}
 use Rattle.records.specs.declared.body.BodyState.{BodyState}
-use Rattle.records.specs.declared.joint.JointBase.{JointBase}
 use Rattle.records.specs.declared.joint.JointSim.{JointSim}
 use Rattle.records.specs.declared.joint.JointUnion.{JointUnion}
 use Rattle.records.specs.declared.joint.JointUnion.the-variants.{Revolute, Spherical, Weld, Other}
-use Rattle.records.specs.Body.{storeVelocities, identityBodyState}
 use Rattle.constraint.specs.Answer.{jointSim}
-use Rattle.joint.specs.declared.stage.Staged.{Staged}
-use Rattle.joint.specs.Stage.{stageRevolute, stageSpherical, stageWeld, stageJoint}
-use Rattle.scene.specs.declared.Scene.{Scene}
-use Rattle.records.specs.Joint.{unusedJoint}
-use Rattle.joint.specs.Index.{caseOf, isOther, indexA, indexB, badIndex, indexCause}
-use Rattle.scene.specs.Scene.{jointAt, stateAt, store}
-use Rattle.scene.specs.Calls.{call}
-use Rattle.scene.specs.Plain as Plain
-use Rattle.scene.specs.Plain.{verdictOf, earlyCause, verdict, storeBoth, step, plainRun}
-use Rattle.scene.specs.Accepted.{run-accepted, run-refused}
+use Rattle.joint.specs.Index.{caseOf, indexA, indexB, badIndex}
+use Rattle.scene.specs.Scene.{stateAt, store}
+use Rattle.scene.specs.Plain.{verdictOf, storeBoth}
 use Rattle.scene.specs.Claims.{LimitsPush}
-use Rattle.scene.specs.Stages.{solve-limits}
+use Rattle.scene.specs.Stages.{stage-keeps, solve-limits}
+use Rattle.scene.specs.Stores.{both-rest}
+use Rattle.scene.specs.Framed.{only-impulses}
+use Rattle.scene.specs.Changes.{not-stored, only-velocities}
+use Rattle.scene.specs.Accepted.{Says, says-other, says-index, Answers, answers-nil, answers-test, answers-numbers, answers-none}
 use Rattle.direct.specs.declared.call.Call.{Call}
-use Rattle.direct.specs.Direct.{cause, Outcome, refused, done, stageAt, directCall, solve}
-use Rattle.direct.specs.Claims.{callOf, counted, Callable, OfKind, SameEnd, OneCall, Limits}
+use Rattle.direct.specs.Direct.{isOfKind, cause, Outcome, answerOf, refused, done, stageAt, directCall, solve}
+use Rattle.direct.specs.Claims.{Cause1, tests, Numbers, Acceptance, Refusal, OnlyChanges, Changes, PairStored, OneCall, Limits}
+use Rattle.direct.specs.Stored.{store-long, pair-at}
+use Rattle.direct.specs.OneCall.{same-end}
 
--- ---- the counted part of a list
+-- ---- a call is worked, or refused
 
-getD-take : (l : List BodyState) (n k : ℕ) (d : BodyState) → k < n → getD (take n l) k d ≡ getD l k d
-getD-take l zero k d h = absurd (not-suc-le-zero h)
-getD-take [] (suc n) k d h = refl
-getD-take (x ∷ l) (suc n) zero d h = refl
-getD-take (x ∷ l) (suc n) (suc k) d h = getD-take l n k d (le-of-suc-le-suc h)
+module _ (call : Call) (joint : JointSim) (states : List BodyState) where
+  abbrev its-cause : ℕ
+  its-cause = cause (call .kind) (joint .«union_») (length states)
 
-take-set : (l : List BodyState) (n k : ℕ) (x : BodyState) → k < n → take n (set l k x) ≡ set (take n l) k x
-take-set l zero k x h = absurd (not-suc-le-zero h)
-take-set [] (suc n) k x h = refl
-take-set (y ∷ l) (suc n) zero x h = refl
-take-set (y ∷ l) (suc n) (suc k) x h = ap (λ r. y ∷ r) (take-set l n k x (le-of-suc-le-suc h))
+  by-outcome : (P : Outcome → Type 0) → P (done joint states (stageAt call joint states)) → (its-cause ≢ 0 → P (refused its-cause joint states)) → P (directCall call joint states)
+  unfolding directCall
+  by-outcome P worked turned-away = by (eqb its-cause 0) refl
+    where
+      by : (b : Bool) → eqb its-cause 0 ≡ b → P (cond b (done joint states (stageAt call joint states)) (refused its-cause joint states))
+      by true e = worked
+      by false e = turned-away (eqb-false its-cause 0 e)
 
-take-state : (l : List BodyState) (n : ℕ) (i : ℤ) → badIndex n i ≡ false → stateAt (take n l) i ≡ stateAt l i
-take-state l n (pos k) e = getD-take l n k identityBodyState (leb-false n k e)
-take-state l n (negsuc k) e = refl
+  answer-is : directCall call joint states .answer ≡ answerOf its-cause
+  unfolding directCall
+  answer-is = by (eqb its-cause 0) refl
+    where
+      by : (b : Bool) → eqb its-cause 0 ≡ b → cond b (done joint states (stageAt call joint states)) (refused its-cause joint states) .answer ≡ answerOf its-cause
+      by true e = ap answerOf (sym (eqb-true its-cause 0 e))
+      by false e = refl
 
-take-store : (l : List BodyState) (n : ℕ) (i : ℤ) (v w : Vec3) → badIndex n i ≡ false → take n (store l i v w) ≡ store (take n l) i v w
-unfolding store
-take-store l n (pos k) v w e =
-    let h = leb-false n k e in
-    take-set l n k (storeVelocities (getD l k identityBodyState) v w) h ∙ ap (λ x. set (take n l) k (storeVelocities x v w)) (sym (getD-take l n k identityBodyState h))
-take-store l n (negsuc k) v w e = refl
+-- ---- numbers
 
--- ---- the tests of a call of a list and of a direct call
+says-kind : (kind c : ℕ) (u : JointUnion) → caseOf u ≡ c → u ≢ Other → Says (not (eqb kind c)) (Cause1 kind u)
+says-kind kind c u is three = by (eqb kind c) refl
+  where
+    by : (b : Bool) → eqb kind c ≡ b → Says (not b) (Cause1 kind u)
+    by true e = ⊎-elim (λ ne. ne (is ∙ sym (eqb-true kind c e))) three
+    by false e = inl (λ p. eqb-false kind c e (sym p ∙ is))
 
-by-kind : (kind : ℕ) (u : JointUnion) (rest : ℕ) → OfKind kind u → cond (isOther u) 1 rest ≡ cond (eqb (caseOf u) kind) rest 1
-by-kind kind u rest (low, inl e) = rw (e, ne-eqb 3 kind (λ x. omega (arith, low)))
-by-kind kind (Revolute r) rest (low, inr e) = rw (eq-eqb 0 kind e)
-by-kind kind (Spherical r) rest (low, inr e) = rw (eq-eqb 1 kind e)
-by-kind kind (Weld r) rest (low, inr e) = rw (eq-eqb 2 kind e)
-by-kind kind Other rest (low, inr e) = absurd (omega (arith, e, low))
+says-1 : (kind : ℕ) (u : JointUnion) → Says (not (isOfKind kind u)) (Cause1 kind u)
+says-1 kind (Revolute r) = says-kind kind 0 (Revolute r) refl (says-other (Revolute r))
+says-1 kind (Spherical r) = says-kind kind 1 (Spherical r) refl (says-other (Spherical r))
+says-1 kind (Weld r) = says-kind kind 2 (Weld r) refl (says-other (Weld r))
+says-1 kind Other = inr refl
 
--- where no index test holds
-none-bad : (a b : Bool) → _≡_ {A = ℕ} (cond a 2 (cond b 3 0)) 0 → (a ≡ false) × (b ≡ false)
-none-bad true b e = absurd (omega arith)
-none-bad false true e = absurd (omega arith)
-none-bad false false e = (refl, refl)
+three-tests : (k b₂ b₃ : Bool)
+    → cond (not k) (verdictOf 1 0) (cond b₂ (verdictOf 2 0) (cond b₃ (verdictOf 3 0) (verdictOf 0 0))) ≡ verdictOf (cond k (cond b₂ 2 (cond b₃ 3 0)) 1) 0
+three-tests false b₂ b₃ = refl
+three-tests true true b₃ = refl
+three-tests true false true = refl
+three-tests true false false = refl
 
-kind-then : (a : Bool) (rest : ℕ) → _≡_ {A = ℕ} (cond a rest 1) 0 → rest ≡ 0
-kind-then true rest e = e
-kind-then false rest e = absurd (omega arith)
+answers : (call : Call) (joint : JointSim) (states : List BodyState) → Answers (tests call joint states) (verdictOf (its-cause call joint states) 0)
+unfolding cause
+answers call joint states =
+    let u = joint .«union_» in
+    let k = isOfKind (call .kind) u in
+    let b₂ = badIndex (length states) (indexA u) in
+    let b₃ = badIndex (length states) (indexB u) in
+    rw (sym (three-tests k b₂ b₃))
+    (answers-test (not k) 1 0 _ _ (λ e. omega arith) (says-1 (call .kind) u)
+    (answers-test b₂ 2 0 _ _ (λ e. omega arith) (says-index (length states) (indexA u))
+    (answers-test b₃ 3 0 _ _ (λ e. omega arith) (says-index (length states) (indexB u)) answers-nil)))
 
--- ---- a stage
+pub numbers : Numbers
+numbers call joint states number ne =
+    let same = ap (λ a. a .number) (answer-is call joint states) in
+    let given = answers-numbers (tests call joint states) (verdictOf (its-cause call joint states) 0) (answers call joint states) number 0 ne in
+    (λ e. given .0 (sym same ∙ e, refl), λ h. same ∙ given .1 h .0)
 
--- a warm start reads no step context
-no-context : (u : JointUnion) (base : JointBase) (h i h′ i′ : Float) (a b : BodyState) → stageJoint u base h i a b 0 ≡ stageJoint u base h′ i′ a b 0
-unfolding stageJoint stageRevolute stageSpherical stageWeld
-no-context (Revolute r) base h i h′ i′ a b = refl
-no-context (Spherical r) base h i h′ i′ a b = refl
-no-context (Weld r) base h i h′ i′ a b = refl
-no-context Other base h i h′ i′ a b = refl
+pub acceptance : Acceptance
+acceptance call joint states =
+    let is = answer-is call joint states in
+    let same = ap (λ a. a .number) is in
+    let given = answers-none (tests call joint states) (verdictOf (its-cause call joint states) 0) (answers call joint states) in
+    ((λ e. given .0 (sym same ∙ e), λ h. same ∙ given .1 h), ap (λ a. a .place) is)
 
-same-stage : (kind stage : ℕ) (x : StepContext) (u : JointUnion) (base : JointBase) (a b : BodyState) → stage ≤ 2
-    → stageJoint u base (x .h) (x .«inv_h») a b stage ≡ stageJoint u base (callOf kind stage x .h) (callOf kind stage x .«inv_h») a b (callOf kind stage x .stage)
-same-stage kind zero x u base a b low = no-context u base _ _ _ _ a b
-same-stage kind (suc zero) x u base a b low = refl
-same-stage kind (suc (suc zero)) x u base a b low = refl
-same-stage kind (suc (suc (suc n))) x u base a b low = absurd (omega arith)
+pub refusal : Refusal
+refusal call joint states =
+    by-outcome call joint states (λ o. o .answer .number ≢ 0 → (o .joint ≡ joint) × (o .states ≡ states)) (λ ne. absurd (ne refl)) (λ ne ne′. (refl, refl))
 
-kind-of : (kind stage : ℕ) (x : StepContext) → callOf kind stage x .kind ≡ kind
-kind-of kind zero x = refl
-kind-of kind (suc zero) x = refl
-kind-of kind (suc (suc n)) x = refl
+-- ---- what may change
+
+pub changes : Changes
+changes call joint states = by-outcome call joint states (OnlyChanges joint states) worked (λ ne. unaltered)
+  where
+    worked : OnlyChanges joint states (done joint states (stageAt call joint states))
+    worked =
+        let u = joint .«union_» in
+        let a = stateAt states (indexA u) in
+        let b = stateAt states (indexB u) in
+        let r = stageAt call joint states in
+        let v = r .velocities in
+        record {
+          impulses = only-impulses joint (jointSim (joint .base) (r .«union_»)) (ap (jointSim (joint .base)) (stage-keeps (joint .base) (call .h) (call .«inv_h») a b (call .stage) u));
+          as-many = store-long (store states (indexA u) (v .«v_a») (v .«w_a»)) (indexB u) (v .«v_b») (v .«w_b») ∙ store-long states (indexA u) (v .«v_a») (v .«w_a»);
+          velocities = only-velocities (storeBoth states u v) states (both-rest states u v);
+          state-kept = λ n h. not-stored states u n h v;
+        }
+
+    unaltered : {number : ℕ} → OnlyChanges joint states (refused number joint states)
+    unaltered =
+        record {
+          impulses = record { base = refl; case = refl; index-a = refl; index-b = refl; settings = refl };
+          as-many = refl;
+          velocities = λ n. record { delta-position = refl; delta-rotation = refl; flags = refl };
+          state-kept = λ n h. refl;
+        }
+
+-- ---- stores
+
+pub pair-stored : PairStored
+pair-stored states u v = pair-at states (indexA u) (indexB u) v
 
 -- ---- a list of one call
 
-module _ (s : Scene) (slot stage kind : ℕ) (ok : Callable s slot stage) (of : OfKind kind (jointAt s slot .«union_»)) where
-  abbrev joint : JointSim
-  joint = jointAt s slot
-
-  abbrev u : JointUnion
-  u = joint .«union_»
-
-  abbrev n : ℕ
-  n = s .«body_count»
-
-  abbrev direct : Call
-  direct = callOf kind stage (s .context)
-
-  abbrev outcome : Outcome
-  outcome = directCall direct joint (counted s)
-
-  long : length (counted s) ≡ n
-  long = length-take-le n (s .bodies) (rw (ok .whole-bodies) (ok .few-bodies))
-
-  -- the cause of the list's call, and of the direct call
-  abbrev k : ℕ
-  k = Plain.cause s (call slot stage)
-
-  same-cause : k ≡ cause (direct .kind) u (length (counted s))
-  unfolding Plain.cause cause
-  same-cause = rw (long, kind-of kind stage (s .context), lt-leb (s .«joint_count») slot (ok .slot-counted), le-ltb 2 stage (ok .stage-known)) (by-kind kind u (indexCause n u) of)
-
-  early : earlyCause n (s .«joint_count») 2 ≡ 0
-  unfolding earlyCause
-  early = rw (le-ltb 32 n (ok .few-bodies), le-ltb 32 (s .«joint_count») (ok .few-joints))
-
-  its-verdict : verdict s (slot ∷ stage ∷ []) ≡ cond (eqb k 0) (verdictOf 0 0) (verdictOf k 0)
-  unfolding verdict
-  its-verdict = rw early
-
-  -- neither index is bad where nothing is refused
-  fine : k ≡ 0 → (badIndex n (indexA u) ≡ false) × (badIndex n (indexB u) ≡ false)
-  unfolding cause
-  fine e =
-      none-bad (badIndex n (indexA u)) (badIndex n (indexB u))
-      (kind-then (eqb (caseOf u) (direct .kind)) (indexCause n u) (rw long at (sym same-cause ∙ e)))
-
-  -- the stage of the list's call, and of the direct call
-  same-staged : k ≡ 0 → Plain.stageAt s joint stage ≡ stageAt direct joint (counted s)
-  same-staged e =
-      let f = fine e in
-      rw (take-state (s .bodies) n (indexA u) (f .0), take-state (s .bodies) n (indexB u) (f .1))
-      (same-stage kind stage (s .context) u (joint .base) (stateAt (s .bodies) (indexA u)) (stateAt (s .bodies) (indexB u)) (ok .stage-known))
-
-  take-both : k ≡ 0 → (r : Staged) → take n (storeBoth (s .bodies) u (r .velocities)) ≡ storeBoth (counted s) u (r .velocities)
-  take-both e r =
-      let f = fine e in
-      let v = r .velocities in
-      take-store (store (s .bodies) (indexA u) (v .«v_a») (v .«w_a»)) n (indexB u) (v .«v_b») (v .«w_b») (f .1)
-      ∙ ap (λ l. store l (indexB u) (v .«v_b») (v .«w_b»)) (take-store (s .bodies) n (indexA u) (v .«v_a») (v .«w_a») (f .0))
-
-  slot-in : slot < length (s .joints)
-  slot-in = rw (ok .whole-joints) (omega (arith, ok .slot-counted, ok .few-joints))
-
-  ran : k ≡ 0 → plainRun s (slot ∷ stage ∷ []) ≡ Plain.done s (step (call slot stage) s)
-  ran e =
-      let f : verdict s (slot ∷ stage ∷ []) ≡ verdictOf 0 0 = its-verdict ∙ rw (eq-eqb k 0 e) in
-      run-accepted s (slot ∷ stage ∷ []) (ap (λ v. v .number) f)
-
-  worked : k ≡ 0 → outcome ≡ done joint (counted s) (stageAt direct joint (counted s))
-  unfolding directCall
-  worked e = rw (sym same-cause ∙ e)
-
-  turned-away : k ≢ 0 → outcome ≡ refused k joint (counted s)
-  unfolding directCall
-  turned-away ne = rw (← same-cause, ne-eqb k 0 ne)
-
-  stopped : k ≢ 0 → plainRun s (slot ∷ stage ∷ []) ≡ Plain.refused (verdictOf k 0) s
-  stopped ne =
-      let e : verdict s (slot ∷ stage ∷ []) ≡ verdictOf k 0 = its-verdict ∙ rw (ne-eqb k 0 ne) in
-      run-refused s (slot ∷ stage ∷ []) (λ z. ne (sym (ap (λ v. v .number) e) ∙ z)) ∙ ap (λ v. Plain.refused v s) e
-
-  same-end : SameEnd s slot stage kind
-  unfolding step
-  same-end = by (eqb k 0) refl
-    where
-      by : (b : Bool) → eqb k 0 ≡ b → SameEnd s slot stage kind
-      by true t =
-          let e = eqb-true k 0 t in
-          let r = ran e in
-          let o = worked e in
-          let g = same-staged e in
-          record {
-            number = ap (λ x. x .number) r ∙ sym (ap (λ x. x .answer .number) o);
-            place = ap (λ x. x .place) r ∙ sym (ap (λ x. x .answer .place) o);
-            joint =
-                ap (λ x. jointAt (x .scene) slot) r ∙ getD-set-same (s .joints) slot (jointSim (joint .base) (Plain.stageAt s joint stage .«union_»)) unusedJoint slot-in
-                ∙ ap (λ x. jointSim (joint .base) (x .«union_»)) g
-                ∙ sym (ap (λ x. x .joint) o);
-            states = ap (λ x. counted (x .scene)) r ∙ take-both e (Plain.stageAt s joint stage) ∙ ap (λ x. storeBoth (counted s) u (x .velocities)) g ∙ sym (ap (λ x. x .states) o);
-          }
-      by false t =
-          let ne = eqb-false k 0 t in
-          let r = stopped ne in
-          let o = turned-away ne in
-          record {
-            number = ap (λ x. x .number) r ∙ sym (ap (λ x. x .answer .number) o);
-            place = ap (λ x. x .place) r ∙ sym (ap (λ x. x .answer .place) o);
-            joint = ap (λ x. jointAt (x .scene) slot) r ∙ sym (ap (λ x. x .joint) o);
-            states = ap (λ x. counted (x .scene)) r ∙ sym (ap (λ x. x .states) o);
-          }
-
 pub one-call : OneCall
-one-call s slot stage kind ok of = same-end s slot stage kind ok of
+one-call = same-end
 
 -- ---- limits
 
@@ -222,17 +146,8 @@ a-solve true e = omega arith
 a-solve false e = omega arith
 
 pub limits : Limits
-unfolding directCall
-limits kind context useBias joint states e free = by (eqb k 0) refl e
-  where
-    k : ℕ
-    k = cause kind (joint .«union_») (length states)
-
-    left : Bool → Outcome
-    left b = cond b (done joint states (stageAt (solve kind context useBias) joint states)) (refused k joint states)
-
-    by : (b : Bool) → eqb k 0 ≡ b → left b .answer .number ≡ 0 → LimitsPush (left b .joint .«union_»)
-    by true t e =
-        let u = joint .«union_» in
-        solve-limits (joint .base) (context .h) (context .«inv_h») (stateAt states (indexA u)) (stateAt states (indexB u)) (cond useBias 1 2) u (a-solve useBias) free
-    by false t e = absurd (eqb-false k 0 t e)
+limits kind context useBias joint states e free =
+    by-outcome (solve kind context useBias) joint states (λ o. o .answer .number ≡ 0 → LimitsPush (joint .«union_») (o .joint .«union_»))
+    (λ e. let u = joint .«union_» in
+    solve-limits (joint .base) (context .h) (context .«inv_h») (stateAt states (indexA u)) (stateAt states (indexB u)) (cond useBias 1 2) u (a-solve useBias) free)
+    (λ ne e. absurd (ne e)) e

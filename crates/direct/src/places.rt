@@ -1,6 +1,5 @@
 // The tests of a direct call, and where its two states lie.
 ghost use mathlib.Core.Path.{_≡_};
-ghost use Rattle.joint.specs.Index.{caseOf};
 ghost use Rattle.direct.specs.Direct as D;
 ghost use Rattle.direct.specs.Steps as S;
 use crate::Answer;
@@ -21,14 +20,15 @@ pub struct Places {
     pub none: BodyState,
 }
 
-pub fn case_of(union_: JointUnion) -> u8
-    ensures { λ r. ⌜ r ≡ caseOf «union_» ⌝ }
+// Whether the joint's case is the kind, by its number. The empty case is of no kind.
+pub fn is_of_kind(kind: u8, union_: JointUnion) -> bool
+    ensures { λ r. ⌜ r ≡ D.isOfKind kind «union_» ⌝ }
 {
     match union_ {
-        JointUnion::Revolute(_) => 0,
-        JointUnion::Spherical(_) => 1,
-        JointUnion::Weld(_) => 2,
-        JointUnion::Other => 3,
+        JointUnion::Revolute(_) => kind == 0,
+        JointUnion::Spherical(_) => kind == 1,
+        JointUnion::Weld(_) => kind == 2,
+        JointUnion::Other => false,
     }
 }
 
@@ -36,10 +36,10 @@ pub fn case_of(union_: JointUnion) -> u8
 pub fn cause_of(kind: u8, union_: JointUnion, n: usize) -> u32
     ensures { λ r. ⌜ r ≡ D.cause kind «union_» n ⌝ }
 {
-    if case_of(union_) != kind {
-        return 1;
+    if is_of_kind(kind, union_) {
+        return index_cause(n, union_);
     }
-    index_cause(n, union_)
+    1
 }
 
 pub fn place_of(n: usize, index: i32) -> usize

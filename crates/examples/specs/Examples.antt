@@ -2,6 +2,7 @@
 use mathlib.Core.Path.{_≡_}
 use mathlib.Core.Bool.{Bool, true, false, _&&_}
 use mathlib.Core.List.{List, [], _∷_}
+use Prim.Native.Nat.{ℕ}
 use lib.Dec.{T}
 use lib.IntN.{pos}
 use lib.Ieee as Ieee
@@ -25,8 +26,8 @@ use Rattle.records.specs.declared.joint.JointType.the-variants as Kind
 use Rattle.records.specs.declared.joint.JointUnion.{JointUnion}
 use Rattle.records.specs.declared.joint.JointUnion.the-variants.{Revolute, Spherical, Weld, Other}
 use Rattle.records.specs.declared.body.BodyRecord.{BodyRecord}
+use Rattle.records.specs.declared.body.BodyState.{BodyState}
 use Rattle.records.specs.Body as Body
-use Rattle.records.specs.Body.{identityBodyState}
 use Rattle.constraint.specs.Velocity as Velocity
 use Rattle.constraint.specs.Soft as Soft
 use Rattle.constraint.specs.Rotation as Rotation
@@ -36,7 +37,11 @@ use Rattle.constraint.specs.Prepare as Prepare
 use Rattle.constraint.specs.Answer.{jointSim}
 use Rattle.revolute.specs.Revolute as R
 use Rattle.weld.specs.Weld as W
-use Rattle.joint.specs.Store as Store
+use Rattle.joint.specs.Stage as Stage
+use Rattle.scene.specs.Scene as Scene
+use Rattle.scene.specs.Scene.{stateAt}
+use Rattle.direct.specs.Direct as Direct
+use Rattle.direct.specs.Direct.{revolute, weld, warmStart, solve, Outcome, directCall}
 use Rattle.examples.specs.Same.{sameFloats, same-floats}
 use Rattle.examples.specs.Joints.{mat3Identity, step, jointBase, weldJoint, motorJoint, body, moving, linearImpulseX, motorImpulse}
 
@@ -97,35 +102,35 @@ free1 = body (pos 2) (pos 1) one mat3Zero
 abbrev fixed : BodyRecord
 fixed = body (pos 0) (pos 0) zero mat3Zero
 
+-- the state of a number, as a call leaves it
+abbrev leaves : Outcome → ℕ → BodyState
+leaves after n = stateAt (after .states) (pos n)
+
 -- two welded bodies of inverse mass 1, one at rest and one at 2 along x: the velocities along x, and the impulse
 example13 : Example
 example13 =
-    let s = W.solveWeldJoint (preparedWeld free0 free1) (step zero) (moving zero) (moving two) false in
-    let after = Store.storePair (moving zero) (moving two) false (s .velocities) in
-    example (after .«state_a» .«linear_velocity» .x ∷ after .«state_b» .«linear_velocity» .x ∷ linearImpulseX (s .joint .«union_») ∷ []) (one ∷ one ∷ neg one ∷ [])
+    let after = directCall (solve weld (step zero) false) (preparedWeld free0 free1) (moving zero ∷ moving two ∷ []) in
+    example (leaves after 0 .«linear_velocity» .x ∷ leaves after 1 .«linear_velocity» .x ∷ linearImpulseX (after .joint .«union_») ∷ []) (one ∷ one ∷ neg one ∷ [])
 
 -- the same with A at -1
 example14 : Example
 example14 =
-    let s = W.solveWeldJoint (preparedWeld fixed free0) (step zero) identityBodyState (moving two) false in
-    let after = Store.storePair identityBodyState (moving two) false (s .velocities) in
-    example (after .«state_b» .«linear_velocity» .x ∷ linearImpulseX (s .joint .«union_») ∷ []) (zero ∷ neg two ∷ [])
+    let after = directCall (solve weld (step zero) false) (preparedWeld fixed free0) (moving two ∷ []) in
+    example (leaves after 0 .«linear_velocity» .x ∷ linearImpulseX (after .joint .«union_») ∷ []) (zero ∷ neg two ∷ [])
 
 -- a motor of torque 2 and speed 4, for half a second
 example15 : Example
 example15 =
     let sim = R.prepareRevoluteJoint (jointSim (jointBase Kind.Revolute) (Revolute (motorJoint two four))) (step half) fixed (body (pos 2) (pos 0) one mat3Identity) .joint in
-    let s = R.solveRevoluteJoint sim (step half) identityBodyState (moving zero) false in
-    let after = Store.storePair identityBodyState (moving zero) false (s .velocities) in
-    example (motorImpulse (s .joint .«union_») ∷ after .«state_b» .«angular_velocity» .z ∷ []) (one ∷ one ∷ [])
+    let after = directCall (solve revolute (step half) false) sim (moving zero ∷ []) in
+    example (motorImpulse (after .joint .«union_») ∷ leaves after 0 .«angular_velocity» .z ∷ []) (one ∷ one ∷ [])
 
--- a warm start with both indices on one body: B's velocity remains
+-- a warm start with both indices 0: B's velocity remains
 example16 : Example
 example16 =
     let sim = preparedWeld free0 free0 in
-    let w = W.warmStartWeldJoint (jointSim (sim .base) (pushed (sim .«union_»))) (moving two) (moving two) in
-    let after = Store.storePair (moving two) (moving two) true (w .velocities) in
-    example (after .«state_a» .«linear_velocity» .x ∷ after .«state_b» .«linear_velocity» .x ∷ []) (three ∷ three ∷ [])
+    let after = directCall (warmStart weld) (jointSim (sim .base) (pushed (sim .«union_»))) (moving two ∷ []) in
+    example (leaves after 0 .«linear_velocity» .x ∷ []) (three ∷ [])
 
 pub table : List Example
 table =
@@ -163,5 +168,5 @@ all-hold (e ∷ es) h =
 
 -- the theorem of the sixteen: the checker computes the test
 pub sixteen : Every Holds table
-unfolding table example13 example14 example15 example16 Ieee.ofBits Ieee.neg Ieee.add Ieee.sub Ieee.mul Ieee.div Ieee.lt Ieee.eq Root.sqrt Scalar.absFloat Scalar.minFloat Scalar.maxFloat Scalar.clampFloat Scalar.atanUnit Scalar.atan2 Vector.add Vector.sub Vector.neg Vector.dot Vector.length Vector.normalize Vector.mulAdd Vector.mulSub Vector.mulSv Vector.cross Internal.add2 Internal.sub2 Internal.mulSv2 Quat.rotateVector Quat.dotQuat Quat.mulQuat Quat.invMulQuat Quat.conjugate Quat.negateQuat Quat.getTwistAngle Quat.deltaQuatToRotation Quat.getSwingAngle Matrix.det Matrix.mulMv Matrix.negateMat3 Matrix.addMm Matrix.mulMm Matrix.transpose Matrix.invertMatrix Matrix.solve3 Matrix.det2 Matrix.solve2 Matrix.skew Transform.subPos Solver.makeSoft Body.isDynamic Body.storeVelocities Velocity.velocitiesOf Velocity.invMassesOf Velocity.applyAxial Velocity.applyAxialFlipped Velocity.applyAngular Velocity.applyPoint Velocity.applyWarm Soft.softBias Soft.softBias2 Soft.softBias3 Soft.limitBias Soft.softImpulse Soft.softImpulse3 Soft.softImpulse3Products Rotation.samePolarity Rotation.relativeRotation Rotation.flippedRelativeRotation Angular.isWorked Angular.lowerLimitRow Angular.upperLimitRow Angular.angularRow Angular.twistLimitRows Point.pointBias Point.pointMass Point.pointCdot Point.pointCdotGrouped Prepare.prepareBase Prepare.awakeIndex Prepare.prepareFrame Prepare.axialMass R.springRow R.motorRow R.perpAxis R.perpBias R.perpMass R.softImpulse2Products R.perpAngularImpulse R.collinearRow R.perpRow R.pointRow R.jointRotation R.solveSpring R.solveMotor R.solveLimits R.solvePerp R.solvePoint R.solveRevolute R.warmAngularImpulse R.warmStartRevolute R.keepImpulses R.prepareRevolute R.prepareRevoluteUnion R.prepareRevoluteJoint R.warmStartRevoluteUnion R.warmStartRevoluteJoint R.solveRevoluteUnion R.solveRevoluteJoint W.rowSpring W.keepImpulses W.prepareWeld W.warmStartWeld W.isSoft W.angularBias W.weldAngularRow W.pointRow W.solveAngular W.solvePoint W.solveWeld W.prepareWeldUnion W.prepareWeldJoint W.warmStartWeldUnion W.warmStartWeldJoint W.solveWeldUnion W.solveWeldJoint Store.storePair
+unfolding table example13 example14 example15 example16 Ieee.ofBits Ieee.neg Ieee.add Ieee.sub Ieee.mul Ieee.div Ieee.lt Ieee.eq Root.sqrt Scalar.absFloat Scalar.minFloat Scalar.maxFloat Scalar.clampFloat Scalar.atanUnit Scalar.atan2 Vector.add Vector.sub Vector.neg Vector.dot Vector.length Vector.normalize Vector.mulAdd Vector.mulSub Vector.mulSv Vector.cross Internal.add2 Internal.sub2 Internal.mulSv2 Quat.rotateVector Quat.dotQuat Quat.mulQuat Quat.invMulQuat Quat.conjugate Quat.negateQuat Quat.getTwistAngle Quat.deltaQuatToRotation Quat.getSwingAngle Matrix.det Matrix.mulMv Matrix.negateMat3 Matrix.addMm Matrix.mulMm Matrix.transpose Matrix.invertMatrix Matrix.solve3 Matrix.det2 Matrix.solve2 Matrix.skew Transform.subPos Solver.makeSoft Body.isDynamic Body.storeVelocities Velocity.velocitiesOf Velocity.invMassesOf Velocity.applyAxial Velocity.applyAxialFlipped Velocity.applyAngular Velocity.applyPoint Velocity.applyWarm Soft.softBias Soft.softBias2 Soft.softBias3 Soft.limitBias Soft.softImpulse Soft.softImpulse3 Soft.softImpulse3Products Rotation.samePolarity Rotation.relativeRotation Rotation.flippedRelativeRotation Angular.isWorked Angular.lowerLimitRow Angular.upperLimitRow Angular.angularRow Angular.twistLimitRows Point.pointBias Point.pointMass Point.pointCdot Point.pointCdotGrouped Prepare.prepareBase Prepare.awakeIndex Prepare.prepareFrame Prepare.axialMass R.springRow R.motorRow R.perpAxis R.perpBias R.perpMass R.softImpulse2Products R.perpAngularImpulse R.collinearRow R.perpRow R.pointRow R.jointRotation R.solveSpring R.solveMotor R.solveLimits R.solvePerp R.solvePoint R.solveRevolute R.warmAngularImpulse R.warmStartRevolute R.keepImpulses R.prepareRevolute R.prepareRevoluteUnion R.prepareRevoluteJoint W.rowSpring W.keepImpulses W.prepareWeld W.warmStartWeld W.isSoft W.angularBias W.weldAngularRow W.pointRow W.solveAngular W.solvePoint W.solveWeld W.prepareWeldUnion W.prepareWeldJoint Stage.stageRevolute Stage.stageWeld Stage.stageJoint Scene.store Direct.cause Direct.directCall
 sixteen = all-hold table tt

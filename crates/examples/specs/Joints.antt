@@ -1,11 +1,11 @@
 -- The joints, bodies and states of examples 13 to 16: rotations, frames and deltas identity, all that an example does not name zero, and switches off.
 -- Definitions only. Assumes nothing.
-use mathlib.Core.Bool.{Bool, true, false}
+use mathlib.Core.Bool.{true, false}
 use lib.IntN.{ℤ, pos}
 use lib.Ieee.{Float, nan}
 use Rattle.math_functions.specs.declared.types.Matrix3.{Matrix3}
 use Rattle.math_functions.specs.declared.types.Transform.{Transform}
-use Rattle.math_functions.specs.Float.{zero, one}
+use Rattle.math_functions.specs.Float.{zero}
 use Rattle.math_functions.specs.Types.{vec3, matrix3, transform, vec2Zero, vec3Zero, vec3AxisX, vec3AxisY, vec3AxisZ, quatIdentity, mat3Zero}
 use Rattle.solver.specs.declared.Softness.{Softness}
 use Rattle.solver.specs.declared.StepContext.{StepContext}
@@ -13,7 +13,6 @@ use Rattle.solver.specs.Solver.{softness}
 use Rattle.records.specs.declared.body.BodyState.{BodyState}
 use Rattle.records.specs.declared.body.BodyRecord.{BodyRecord}
 use Rattle.records.specs.declared.joint.JointBase.{JointBase}
-use Rattle.records.specs.declared.joint.JointSim.{JointSim}
 use Rattle.records.specs.declared.joint.JointType.{JointType}
 use Rattle.records.specs.declared.joint.JointUnion.{JointUnion}
 use Rattle.records.specs.declared.joint.JointUnion.the-variants.{Revolute, Spherical, Weld, Other}

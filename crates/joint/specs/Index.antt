@@ -1,4 +1,4 @@
--- The bodies that a joint names by its two indices, and document 01's tests of them. Definitions only. Assumes nothing.
+-- Which case a joint is, the bodies that it names by its two indices, and document 01's tests of these. Definitions only. Assumes nothing.
 use mathlib.Core.Bool.{Bool, true, false, cond}
 use Prim.Native.Nat.{ℕ, zero, suc}
 use lib.Dec.{leb}

@@ -16,11 +16,12 @@ use Rattle.revolute.specs.Revolute.{warmStartRevolute, solveRevolute}
 use Rattle.spherical.specs.Spherical.{warmStartSpherical, solveSpherical}
 use Rattle.weld.specs.Weld.{warmStartWeld, solveWeld}
 use Rattle.joint.specs.declared.stage.Staged.{Staged}
+use Rattle.joint.specs.Index.{caseOf}
 
 abbrev pub staged : JointUnion → Velocities → Staged
 staged union velocities = record { «union_» = union; velocities = velocities }
 
--- document 01's stages: 0 warm start, 1 solve with bias, 2 solve without; so does any other, which no accepted call has
+-- document 01's stages: 0 warm start, 1 solve with bias, 2 solve without, and so is any other, which no accepted call has
 unfoldable pub stageRevolute : JointBase → RevoluteJoint → Float → Float → BodyState → BodyState → ℕ → Staged
 stageRevolute base j h invH stateA stateB stage =
     let s = solveRevolute base j h invH stateA stateB (eqb stage 1) in
@@ -42,3 +43,8 @@ stageJoint (Revolute j) base h invH stateA stateB stage = stageRevolute base j h
 stageJoint (Spherical j) base h invH stateA stateB stage = stageSpherical base j h invH stateA stateB stage
 stageJoint (Weld j) base h invH stateA stateB stage = stageWeld base j stateA stateB stage
 stageJoint Other base h invH stateA stateB stage = staged Other (velocitiesOf stateA stateB)
+
+-- a joint taken as one of a kind, by the number of its case: one of another kind is left as it was
+unfoldable pub stageAs : ℕ → JointUnion → JointBase → Float → Float → BodyState → BodyState → ℕ → Staged
+stageAs kind union base h invH stateA stateB stage =
+    cond (eqb (caseOf union) kind) (stageJoint union base h invH stateA stateB stage) (staged union (velocitiesOf stateA stateB))

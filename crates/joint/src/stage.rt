@@ -99,6 +99,67 @@ pub fn stage_weld(
     }
 }
 
+// The stage of a joint taken as one of a kind. A joint of another kind is left as it was.
+pub fn stage_as_revolute(
+    base: JointBase,
+    union_: JointUnion,
+    h: f32,
+    inv_h: f32,
+    state_a: BodyState,
+    state_b: BodyState,
+    stage: u8,
+) -> Staged
+    ensures { λ r. ⌜ r ≡ D.stageAs 0 «union_» base h «inv_h» «state_a» «state_b» stage ⌝ }
+{
+    let JointUnion::Revolute(j) = union_ else {
+        return Staged {
+            union_,
+            velocities: velocities_of(state_a, state_b),
+        };
+    };
+    stage_revolute(base, j, h, inv_h, state_a, state_b, stage)
+}
+
+pub fn stage_as_spherical(
+    base: JointBase,
+    union_: JointUnion,
+    h: f32,
+    inv_h: f32,
+    state_a: BodyState,
+    state_b: BodyState,
+    stage: u8,
+) -> Staged
+    ensures { λ r. ⌜ r ≡ D.stageAs 1 «union_» base h «inv_h» «state_a» «state_b» stage ⌝ }
+{
+    let JointUnion::Spherical(j) = union_ else {
+        return Staged {
+            union_,
+            velocities: velocities_of(state_a, state_b),
+        };
+    };
+    stage_spherical(base, j, h, inv_h, state_a, state_b, stage)
+}
+
+pub fn stage_as_weld(
+    base: JointBase,
+    union_: JointUnion,
+    h: f32,
+    inv_h: f32,
+    state_a: BodyState,
+    state_b: BodyState,
+    stage: u8,
+) -> Staged
+    ensures { λ r. ⌜ r ≡ D.stageAs 2 «union_» base h «inv_h» «state_a» «state_b» stage ⌝ }
+{
+    let JointUnion::Weld(j) = union_ else {
+        return Staged {
+            union_,
+            velocities: velocities_of(state_a, state_b),
+        };
+    };
+    stage_weld(base, j, state_a, state_b, stage)
+}
+
 // The stage of the kind that the joint is. The empty case leaves all as it was.
 pub fn stage_joint(
     base: JointBase,

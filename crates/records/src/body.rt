@@ -60,13 +60,8 @@ pub fn store_velocities(state: BodyState, v: Vec3, w: Vec3) -> BodyState
 {
     if is_dynamic(state) {
         let mut out = state;
-        // number by number: the state stays in registers
-        out.linear_velocity.x = v.x;
-        out.linear_velocity.y = v.y;
-        out.linear_velocity.z = v.z;
-        out.angular_velocity.x = w.x;
-        out.angular_velocity.y = w.y;
-        out.angular_velocity.z = w.z;
+        out.linear_velocity = v;
+        out.angular_velocity = w;
         return out;
     }
     state

@@ -12,20 +12,24 @@ use constraint::angular::AxialRow;
 use constraint::angular::LimitRows;
 use constraint::angular::Row3;
 use constraint::angular::is_worked;
-use constraint::angular::twist_limit_rows;
+use constraint::angular::lower_limit_row;
+use constraint::angular::upper_limit_row;
 use constraint::prepare::awake_index;
 use constraint::prepare::axial_mass;
 use constraint::prepare::prepare_base;
 use constraint::prepare::prepare_frame;
 use constraint::rotation::RelativeRotation;
-use constraint::rotation::flipped_relative_rotation;
+use constraint::rotation::same_polarity;
+use constraint::soft::limit_bias;
 use constraint::velocity::InvMasses;
 use constraint::velocity::Velocities;
 use constraint::velocity::apply_warm;
 use constraint::velocity::inv_masses_of;
 use constraint::velocity::velocities_of;
 use math_functions::matrix::add_mm;
+use math_functions::quat::get_twist_angle;
 use math_functions::quat::inv_mul_quat;
+use math_functions::quat::mul_quat;
 use math_functions::quat::rotate_vector;
 use math_functions::transform::sub_pos;
 use math_functions::types::Quat;
@@ -176,12 +180,10 @@ pub fn joint_rotation(
 ) -> RelativeRotation
     ensures { λ r. ⌜ r ≡ D.jointRotation joint «state_a» «state_b» ⌝ }
 {
-    flipped_relative_rotation(
-        state_a.delta_rotation,
-        joint.frame_a.q,
-        state_b.delta_rotation,
-        joint.frame_b.q,
-    )
+    let quat_a = mul_quat(state_a.delta_rotation, joint.frame_a.q);
+    let quat_b = same_polarity(quat_a, mul_quat(state_b.delta_rotation, joint.frame_b.q));
+    let rel_q = inv_mul_quat(quat_a, quat_b);
+    RelativeRotation { quat_a, rel_q }
 }
 
 // The spring row at the fields of the joint.
@@ -243,21 +245,27 @@ pub fn solve_limits(
 ) -> LimitRows
     ensures { λ r. ⌜ r ≡ D.solveLimits «fixed_rotation» softness joint «rel_q» «inv_h» «use_bias» m v ⌝ }
 {
-    twist_limit_rows(
-        is_worked(joint.enable_limit, fixed_rotation),
-        rel_q,
-        joint.lower_angle,
-        joint.upper_angle,
-        softness,
-        inv_h,
-        use_bias,
-        joint.axial_mass,
-        joint.rotation_axis_z,
-        joint.lower_impulse,
-        joint.upper_impulse,
-        m,
-        v,
-    )
+    if !is_worked(joint.enable_limit, fixed_rotation) {
+        return LimitRows {
+            lower_impulse: joint.lower_impulse,
+            upper_impulse: joint.upper_impulse,
+            velocities: v,
+        };
+    }
+    let mass = joint.axial_mass;
+    let axis = joint.rotation_axis_z;
+    let angle = get_twist_angle(rel_q);
+    let lower_bias = limit_bias(angle - joint.lower_angle, softness, inv_h, use_bias);
+    let lower = lower_limit_row(lower_bias, mass, axis, joint.lower_impulse, m, v);
+    let v = lower.velocities;
+    let upper_bias = limit_bias(joint.upper_angle - angle, softness, inv_h, use_bias);
+    let upper = upper_limit_row(upper_bias, mass, axis, joint.upper_impulse, m, v);
+    let velocities = upper.velocities;
+    LimitRows {
+        lower_impulse: lower.impulse,
+        upper_impulse: upper.impulse,
+        velocities,
+    }
 }
 
 // The perpendicular row at the fields of the joint. It has no switch.

@@ -1,7 +1,7 @@
 -- What a verdict says: the number and the place of the first cause that holds, in the order of a run's tests. Assumes nothing.
 use mathlib.Core.Path.{_≡_, refl, sym, ap, _∙_}
 use mathlib.Core.Logic.{_⊎_, inl, inr, ⊎-elim, _≢_, _↔_}
-use mathlib.Core.Bool.{Bool, true, false, cond, _||_, true≢false, false≢true}
+use mathlib.Core.Bool.{Bool, true, false, cond, _||_}
 use mathlib.Core.List.{List, [], _∷_, _++_}
 use Prim.Native.Nat.{ℕ, zero, suc, _+_, _%_, _≤_, _<_}
 use native.Mathlib.Omega.{arith}
@@ -16,18 +16,18 @@ use Rattle.scene.specs.declared.Verdict.{Verdict}
 use Rattle.joint.specs.Index.{indexA, indexB, caseOf, isOther, badIndex}
 use Rattle.scene.specs.Scene.{jointAt}
 use Rattle.scene.specs.Calls.{Call, calls}
-use Rattle.scene.specs.Plain.{causeIn, cause, verdictOf, firstCause, earlyCause, verdict, Accepted, done, refused, runCalls, plainRun}
+use Rattle.scene.specs.Plain.{cause, verdictOf, firstCause, earlyCause, verdict, Accepted, done, refused, runCalls, plainRun}
 use Rattle.scene.specs.Framed.{Framed, cause-kept}
-use Rattle.scene.specs.Claims.{Cause1, Cause2, Cause3, Cause4, Cause5, Cause6, Cause7, OutOf, Test, test, callTests, tests, NoCause, FirstCause}
+use Rattle.scene.specs.Claims.{Cause6, Cause7, OutOf, Test, test, callTests, tests, NoCause, FirstCause}
 
 -- ---- each test decides its cause
 
 -- `b` says whether `P` holds
-abbrev Says : Bool → Type 0 → Type 0
+abbrev pub Says : Bool → Type 0 → Type 0
 Says true P = P
 Says false P = ¬ P
 
-says-or : (a b : Bool) (P Q : Type 0) → Says a P → Says b Q → Says (a || b) (P ⊎ Q)
+pub says-or : (a b : Bool) (P Q : Type 0) → Says a P → Says b Q → Says (a || b) (P ⊎ Q)
 says-or true b P Q p q = inl p
 says-or false true P Q p q = inr q
 says-or false false P Q p q = ⊎-elim p q
@@ -46,7 +46,7 @@ says-le m n = by (leb m n) refl
     by true e = leb-true m n e
     by false e = λ h. omega (arith, leb-false m n e)
 
-says-eq : (m n : ℕ) → Says (eqb m n) (m ≡ n)
+pub says-eq : (m n : ℕ) → Says (eqb m n) (m ≡ n)
 says-eq m n = by (eqb m n) refl
   where
     by : (b : Bool) → eqb m n ≡ b → Says b (m ≡ n)
@@ -56,13 +56,13 @@ says-eq m n = by (eqb m n) refl
 other-not : {u : JointUnion} → caseOf u ≢ 3 → u ≢ Other
 other-not ne e = ne (ap caseOf e)
 
-says-other : (u : JointUnion) → Says (isOther u) (u ≡ Other)
+pub says-other : (u : JointUnion) → Says (isOther u) (u ≡ Other)
 says-other (Revolute r) = other-not (λ e. omega arith)
 says-other (Spherical r) = other-not (λ e. omega arith)
 says-other (Weld r) = other-not (λ e. omega arith)
 says-other Other = refl
 
-says-index : (count : ℕ) (z : ℤ) → Says (badIndex count z) (OutOf count z)
+pub says-index : (count : ℕ) (z : ℤ) → Says (badIndex count z) (OutOf count z)
 says-index count (pos n) = says-le count n
 says-index count (negsuc zero) = λ h. h refl
 says-index count (negsuc (suc n)) = λ e. omega arith
@@ -80,11 +80,11 @@ pub record Answers (ts : List Test) (v : Verdict) : Type 0 where
   pub found : v .number ≢ 0 → FirstCause ts (v .number) (v .place)
   pub none : v .number ≡ 0 → NoCause ts × (v .place ≡ 0)
 
-answers-nil : Answers [] (verdictOf 0 0)
+pub answers-nil : Answers [] (verdictOf 0 0)
 answers-nil = record { found = λ h. h refl; none = λ e. (tt, refl) }
 
 -- a test before others, none of whose numbers is 0
-answers-test : (b : Bool) {P : Type 0} (number place : ℕ) (ts : List Test) (v : Verdict) → number ≢ 0 → Says b P → Answers ts v
+pub answers-test : (b : Bool) {P : Type 0} (number place : ℕ) (ts : List Test) (v : Verdict) → number ≢ 0 → Says b P → Answers ts v
     → Answers (test number place P ∷ ts) (cond b (verdictOf number place) v)
 answers-test true number place ts v ne p a = record { found = λ h. inl (p, refl, refl); none = λ e. absurd (ne e) }
 answers-test false number place ts v ne p a = record { found = λ h. inr (p, a .found h); none = λ e. ((p, a .none e .0), a .none e .1) }

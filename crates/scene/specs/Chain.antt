@@ -1,5 +1,5 @@
 -- The scene of the two examples: a chain of three bodies and two weld joints. Definitions only. Assumes nothing.
-use mathlib.Core.Bool.{Bool, true, false}
+use mathlib.Core.Bool.{true, false}
 use mathlib.Core.List.{List, [], _∷_}
 use Prim.Native.Nat.{ℕ}
 use lib.Ieee.{Float}

@@ -4,17 +4,21 @@ use mathlib.Core.Path.{_≡_}
 use mathlib.Core.Logic.{_⊎_, _≢_, _↔_}
 use mathlib.Core.Bool.{Bool, true, false}
 use mathlib.Core.List.{List, [], _∷_, _++_}
-use Prim.Native.Nat.{ℕ, zero, suc, _+_, _%_, _≤_, _<_}
+use Prim.Native.Nat.{ℕ, _+_, _%_, _≤_, _<_}
 use lib.Ieee.{Float, nan}
 use lib.IntN.{ℤ, pos, negsuc}
 use lib.ListN.{length}
 use Rattle.math_functions.specs.declared.types.Vec3.{Vec3}
-use Rattle.math_functions.specs.Float.{eq, two}
+use Rattle.math_functions.specs.Float.{eq, zero, two}
+use Rattle.math_functions.specs.Types.{vec2Zero, vec3Zero}
 use Rattle.records.specs.declared.body.BodyState.{BodyState}
 use Rattle.records.specs.declared.joint.JointSim.{JointSim}
 use Rattle.records.specs.declared.joint.JointUnion.{JointUnion}
 use Rattle.records.specs.declared.joint.JointUnion.the-variants.{Revolute, Spherical, Weld, Other}
 use Rattle.constraint.specs.Facts.{NonNegative}
+use Rattle.revolute.specs.Revolute as R
+use Rattle.spherical.specs.Spherical as S
+use Rattle.weld.specs.Weld as W
 use Rattle.scene.specs.declared.Scene.{Scene}
 use Rattle.joint.specs.Index.{indexA, indexB, caseOf}
 use Rattle.scene.specs.Scene.{jointAt, bodyAt, Dynamic, Names, ShareDynamic}
@@ -135,7 +139,7 @@ EmptyList = (s : Scene) → OfEmpty s
 
 -- Two accepted lists whose calls read the same when only one joint's are kept, whichever joint, and when only those of two joints that share a dynamic body are
 -- kept, whichever two, give the same answer: number, place, still and the whole scene. Which joints share a dynamic body is read off the scene at the start.
--- Nothing is asked of joints that share only a body that is not dynamic, or none (-1), of a joint with both indices on one body, or of joints that are not listed.
+-- Nothing more is asked of joints that share only a body that is not dynamic, or none (-1), of a joint with both indices on one body, or of joints that are not listed.
 abbrev pub Order : Type 0
 Order = (s : Scene) (l₁ l₂ : List ℕ) → Accepted s l₁ → Accepted s l₂
     → ((j : ℕ) → onlyOf j (calls l₁) ≡ onlyOf j (calls l₂))
@@ -151,49 +155,89 @@ OrderCounted = (s : Scene) (l₁ l₂ : List ℕ) → Accepted s l₁ → Accept
 
 -- ==== What may change
 
--- `t` is `s` but for linear and angular velocities of dynamic bodies that a listed joint names, and for the kind's record in the union of listed joints, of which
--- case and indices stay
+-- of a body only linear and angular velocity change
+pub record OnlyVelocities (before after : BodyState) : Type 0 where
+  pub delta-position : after .«delta_position» ≡ before .«delta_position»
+  pub delta-rotation : after .«delta_rotation» ≡ before .«delta_rotation»
+  pub flags : after .flags ≡ before .flags
+
+-- a joint's record with what a solve writes set to zero: the impulses, and revolute's two perpendicular axes. Left are the settings, the switches among them, the
+-- indices and what prepare made
+abbrev pub settingsOf : JointUnion → JointUnion
+settingsOf (Revolute r) = Revolute (R.withImpulses r vec3Zero vec2Zero zero zero zero zero vec3Zero vec3Zero)
+settingsOf (Spherical r) = Spherical (S.withImpulses r vec3Zero vec3Zero vec3Zero zero zero zero)
+settingsOf (Weld r) = Weld (W.withImpulses r vec3Zero vec3Zero)
+settingsOf Other = Other
+
+-- of a joint nothing changes but what a solve writes
+pub record OnlyImpulses (before after : JointSim) : Type 0 where
+  pub base : after .base ≡ before .base
+  pub case : caseOf (after .«union_») ≡ caseOf (before .«union_»)
+  pub index-a : indexA (after .«union_») ≡ indexA (before .«union_»)
+  pub index-b : indexB (after .«union_») ≡ indexB (before .«union_»)
+  pub settings : settingsOf (after .«union_») ≡ settingsOf (before .«union_»)
+
+-- `t` is `s` but for velocities of dynamic bodies that a listed joint names, and for what a solve writes of listed joints
 pub record OnlyChanges (s : Scene) (l : List Call) (t : Scene) : Type 0 where
   pub body-count : t .«body_count» ≡ s .«body_count»
   pub joint-count : t .«joint_count» ≡ s .«joint_count»
   pub context : t .context ≡ s .context
   pub as-many-bodies : length (t .bodies) ≡ length (s .bodies)
   pub as-many-joints : length (t .joints) ≡ length (s .joints)
-  -- of every body
-  pub delta-position : (n : ℕ) → bodyAt t n .«delta_position» ≡ bodyAt s n .«delta_position»
-  pub delta-rotation : (n : ℕ) → bodyAt t n .«delta_rotation» ≡ bodyAt s n .«delta_rotation»
-  pub flags : (n : ℕ) → bodyAt t n .flags ≡ bodyAt s n .flags
-  -- of a body that is not dynamic, or that no listed joint names
+  pub bodies : (n : ℕ) → OnlyVelocities (bodyAt s n) (bodyAt t n)
+  pub joints : (j : ℕ) → OnlyImpulses (jointAt s j) (jointAt t j)
+  -- a body that is not dynamic, or that no listed joint names, is kept whole
   pub body-kept : (n : ℕ) → ((j : ℕ) → Listed j l → Names s j n → ¬ (Dynamic s n)) → bodyAt t n ≡ bodyAt s n
-  -- of a joint that is not listed
+  -- and so is a joint that is not listed
   pub joint-kept : (j : ℕ) → ¬ (Listed j l) → jointAt t j ≡ jointAt s j
-  -- of every joint
-  pub base-kept : (j : ℕ) → jointAt t j .base ≡ jointAt s j .base
-  pub case-kept : (j : ℕ) → caseOf (jointAt t j .«union_») ≡ caseOf (jointAt s j .«union_»)
-  pub index-a-kept : (j : ℕ) → indexA (jointAt t j .«union_») ≡ indexA (jointAt s j .«union_»)
-  pub index-b-kept : (j : ℕ) → indexB (jointAt t j .«union_») ≡ indexB (jointAt s j .«union_»)
 
 -- Whatever the list, a run changes nothing else.
 abbrev pub Changes : Type 0
 Changes = (s : Scene) (l : List ℕ) → OnlyChanges s (calls l) (plainRun s l .scene)
 
+-- Nor does any list of calls, and so none that stands before a cut of an accepted list: 'kinds, indices, counts and flags stay as fed'.
+abbrev pub ChangesMidway : Type 0
+ChangesMidway = (s : Scene) (before : List Call) → OnlyChanges s before (runCalls before s)
+
 -- ==== Limits
 
--- each enabled limit's impulses are zero or positive, and no NaN: revolute's limit and spherical's twist limit, each with a lower and an upper impulse, and
--- spherical's cone, with the swing impulse
-abbrev pub LimitsPush : JointUnion → Type 0
-LimitsPush (Revolute r) = r .«enable_limit» ≡ true → NonNegative (r .«lower_impulse») × NonNegative (r .«upper_impulse»)
-LimitsPush (Spherical r) =
-    (r .«enable_twist_limit» ≡ true → NonNegative (r .«lower_twist_impulse») × NonNegative (r .«upper_twist_impulse»))
-    × (r .«enable_cone_limit» ≡ true → NonNegative (r .«swing_impulse»))
-LimitsPush (Weld r) = Unit {0}
-LimitsPush Other = Unit {0}
+-- a joint's limits: their switches and impulses
+pub record JointLimits : Type 0 where
+  pub limit-on : Bool
+  pub lower : Float
+  pub upper : Float
+  pub cone-on : Bool
+  pub swing : Float
+
+-- 'limits are revolute's limit and spherical's twist limit, each with a lower and an upper impulse, and spherical's cone, with the swing impulse'. A limit that a
+-- joint does not have is off, and its impulses are no numbers
+abbrev pub noLimits : JointLimits
+noLimits = record { limit-on = false; lower = nan; upper = nan; cone-on = false; swing = nan }
+
+abbrev pub limitsOf : JointUnion → JointLimits
+limitsOf (Revolute r) = record { limit-on = r .«enable_limit»; lower = r .«lower_impulse»; upper = r .«upper_impulse»; cone-on = false; swing = nan }
+limitsOf (Spherical r) =
+    record {
+      limit-on = r .«enable_twist_limit»;
+      lower = r .«lower_twist_impulse»;
+      upper = r .«upper_twist_impulse»;
+      cone-on = r .«enable_cone_limit»;
+      swing = r .«swing_impulse»;
+    }
+limitsOf (Weld r) = noLimits
+limitsOf Other = noLimits
+
+-- of each limit that was enabled at the start, the impulses at the end are zero or positive, and no NaN
+pub record LimitsPush (start end : JointUnion) : Type 0 where
+  pub lower : limitsOf start .limit-on ≡ true → NonNegative (limitsOf end .lower)
+  pub upper : limitsOf start .limit-on ≡ true → NonNegative (limitsOf end .upper)
+  pub swing : limitsOf start .cone-on ≡ true → NonNegative (limitsOf end .swing)
 
 -- At the end of every accepted list, each joint of which a solve stands in the list and whose rotation is not fixed has its enabled limits' impulses zero or
--- positive, never a NaN.
+-- positive, never a NaN. (The switches themselves stay, by Changes.)
 abbrev pub Limits : Type 0
 Limits = (s : Scene) (l : List ℕ) → Accepted s l → (j : ℕ) → Solved j (calls l) → jointAt s j .base .«fixed_rotation» ≡ false
-    → LimitsPush (jointAt (plainRun s l .scene) j .«union_»)
+    → LimitsPush (jointAt s j .«union_») (jointAt (plainRun s l .scene) j .«union_»)
 
 -- ==== Two examples
 

@@ -1,16 +1,10 @@
--- What every call leaves as it was fed: of each body all but the velocities, of each joint all but the kind's record, of which case and indices stay, and the
--- counts and the context. So no call can be refused midway. Assumes nothing.
+-- What every call leaves as it was fed: of each body all but the velocities, of each joint all but what a solve writes, and the counts and the context. So no
+-- call can be refused midway. Assumes nothing.
 use mathlib.Core.Path.{_≡_, refl, sym, ap, ap₂, _∙_}
-use mathlib.Core.Bool.{Bool, true, false, cond}
 use mathlib.Core.List.{List, [], _∷_, map}
 use Prim.Native.Nat.{ℕ}
-use lib.Dec.{leb, ltb}
-use lib.IntN.{ℤ}
-use lib.ListN.{getD, set, List·getD-map}
+use lib.ListN.{getD, List·getD-map}
 use lib.Seq.{map-set-same}
-use Rattle.solver.specs.declared.StepContext.{StepContext}
-use Rattle.records.specs.declared.body.BodyState.{BodyState}
-use Rattle.records.specs.declared.joint.JointBase.{JointBase}
 use Rattle.records.specs.declared.joint.JointUnion.{JointUnion}
 use Rattle.records.specs.declared.joint.JointUnion.the-variants.{Revolute, Spherical, Weld, Other}
 use Rattle.records.specs.declared.joint.JointSim.{JointSim}
@@ -18,22 +12,48 @@ use Rattle.constraint.specs.Answer.{jointSim}
 use Rattle.scene.specs.declared.Scene.{Scene}
 use Rattle.scene.specs.Reorder.{runAll}
 use Rattle.records.specs.Joint.{unusedJoint}
-use Rattle.joint.specs.Index.{indexA, indexB, caseOf, isOther, badIndex}
+use Rattle.joint.specs.Index.{indexA, indexB, caseOf}
 use Rattle.scene.specs.Scene.{jointAt, stateAt}
 use Rattle.scene.specs.Calls.{Call}
 use Rattle.scene.specs.Plain.{causeIn, cause, stageAt, step}
+use Rattle.scene.specs.Claims.{settingsOf, OnlyImpulses}
 use Rattle.scene.specs.Stages.{stage-keeps}
-use Rattle.scene.specs.Stores.{restOf, SameRest, both-rest}
+use Rattle.scene.specs.Stores.{SameRest, both-rest}
 
 -- what no stage changes of a joint
-pub record Fixed : Type 0 where
-  pub base : JointBase
-  pub case : ℕ
-  pub first : ℤ
-  pub second : ℤ
+abbrev pub fixedOf : JointSim → JointSim
+fixedOf j = jointSim (j .base) (settingsOf (j .«union_»))
 
-abbrev pub fixedOf : JointSim → Fixed
-fixedOf j = record { base = j .base; case = caseOf (j .«union_»); first = indexA (j .«union_»); second = indexB (j .«union_») }
+same-case : (u : JointUnion) → caseOf (settingsOf u) ≡ caseOf u
+same-case (Revolute r) = refl
+same-case (Spherical r) = refl
+same-case (Weld r) = refl
+same-case Other = refl
+
+same-a : (u : JointUnion) → indexA (settingsOf u) ≡ indexA u
+same-a (Revolute r) = refl
+same-a (Spherical r) = refl
+same-a (Weld r) = refl
+same-a Other = refl
+
+same-b : (u : JointUnion) → indexB (settingsOf u) ≡ indexB u
+same-b (Revolute r) = refl
+same-b (Spherical r) = refl
+same-b (Weld r) = refl
+same-b Other = refl
+
+pub only-impulses : (before after : JointSim) → fixedOf after ≡ fixedOf before → OnlyImpulses before after
+only-impulses before after e =
+    let u = before .«union_» in
+    let v = after .«union_» in
+    let same = ap (λ j. j .«union_») e in
+    record {
+      base = ap (λ j. j .base) e;
+      case = sym (same-case v) ∙ ap caseOf same ∙ same-case u;
+      index-a = sym (same-a v) ∙ ap indexA same ∙ same-a u;
+      index-b = sym (same-b v) ∙ ap indexB same ∙ same-b u;
+      settings = same;
+    }
 
 -- `t` is as `s` was fed
 pub record Framed (s t : Scene) : Type 0 where
@@ -49,8 +69,7 @@ framed-start s = record { bodies = refl; joints = refl; body-count = refl; joint
 staged-fixed : (s : Scene) (j : JointSim) (stage : ℕ) → fixedOf (jointSim (j .base) (stageAt s j stage .«union_»)) ≡ fixedOf j
 staged-fixed s j stage =
     let u = j .«union_» in
-    let k = stage-keeps (j .base) (s .context .h) (s .context .«inv_h») (stateAt (s .bodies) (indexA u)) (stateAt (s .bodies) (indexB u)) stage u in
-    λ i. record { base = j .base; case = k .case i; first = k .first i; second = k .second i }
+    ap (jointSim (j .base)) (stage-keeps (j .base) (s .context .h) (s .context .«inv_h») (stateAt (s .bodies) (indexA u)) (stateAt (s .bodies) (indexB u)) stage u)
 
 pub framed-step : (s : Scene) (c : Call) (t : Scene) → Framed s t → Framed s (step c t)
 unfolding step
@@ -71,34 +90,28 @@ framed-from s (c ∷ l) t f = framed-from s l (step c t) (framed-step s c t f)
 pub framed : (s : Scene) (l : List Call) → Framed s (runAll step l s)
 framed s l = framed-from s l s (framed-start s)
 
-pub fixed-at : (s t : Scene) → Framed s t → (j : ℕ) → fixedOf (jointAt t j) ≡ fixedOf (jointAt s j)
-fixed-at s t f j = sym (List·getD-map fixedOf (t .joints) j unusedJoint) ∙ ap (λ l. getD l j (fixedOf unusedJoint)) (f .joints) ∙ List·getD-map fixedOf (s .joints) j unusedJoint
+pub fixed-at : (s t : Scene) → Framed s t → (j : ℕ) → OnlyImpulses (jointAt s j) (jointAt t j)
+fixed-at s t f j =
+    only-impulses (jointAt s j) (jointAt t j)
+    (sym (List·getD-map fixedOf (t .joints) j unusedJoint) ∙ ap (λ l. getD l j (fixedOf unusedJoint)) (f .joints) ∙ List·getD-map fixedOf (s .joints) j unusedJoint)
 
 -- ---- a call's cause is the same in every scene that a run passes through
 
--- the cause, from what it reads of the joint
-abbrev causeBy : ℕ → ℕ → Fixed → Call → ℕ
-causeBy bodyCount jointCount f c =
-    cond (leb jointCount (c .slot)) 4
-    (cond (ltb 2 (c .stage)) 5
-    (cond (leb 3 (f .case)) 1
-    (cond (badIndex bodyCount (f .first)) 2
-    (cond (badIndex bodyCount (f .second)) 3
-    0))))
-
-other-case : (u : JointUnion) → isOther u ≡ leb 3 (caseOf u)
-other-case (Revolute r) = refl
-other-case (Spherical r) = refl
-other-case (Weld r) = refl
-other-case Other = refl
-
-cause-by : (s : Scene) (c : Call) → cause s c ≡ causeBy (s .«body_count») (s .«joint_count») (fixedOf (jointAt s (c .slot))) c
-unfolding cause
-cause-by s c = rw (other-case (jointAt s (c .slot) .«union_»))
+-- it reads nothing of the joint that a solve writes
+cause-settings : (bodies joints : ℕ) (u : JointUnion) (c : Call) → causeIn bodies joints (settingsOf u) c ≡ causeIn bodies joints u c
+cause-settings bodies joints (Revolute r) c = refl
+cause-settings bodies joints (Spherical r) c = refl
+cause-settings bodies joints (Weld r) c = refl
+cause-settings bodies joints Other c = refl
 
 pub cause-kept : (s t : Scene) → Framed s t → (c : Call) → cause t c ≡ cause s c
+unfolding cause
 cause-kept s t f c =
-    cause-by t c
-    ∙ ap₂ (λ bodies joints. causeBy bodies joints (fixedOf (jointAt t (c .slot))) c) (f .body-count) (f .joint-count)
-    ∙ ap (λ x. causeBy (s .«body_count») (s .«joint_count») x c) (fixed-at s t f (c .slot))
-    ∙ sym (cause-by s c)
+    let bodies = s .«body_count» in
+    let joints = s .«joint_count» in
+    let u = jointAt s (c .slot) .«union_» in
+    let v = jointAt t (c .slot) .«union_» in
+    ap₂ (λ m n. causeIn m n v c) (f .body-count) (f .joint-count)
+    ∙ sym (cause-settings bodies joints v c)
+    ∙ ap (λ x. causeIn bodies joints x c) (fixed-at s t f (c .slot) .settings)
+    ∙ cause-settings bodies joints u c

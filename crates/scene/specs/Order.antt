@@ -1,12 +1,12 @@
 -- Which calls may change places: those of two joints that share no dynamic body. So the theorem on order holds of a scene's calls. Assumes nothing.
 use mathlib.Core.Path.{_≡_, refl, sym, ap, ap₂, _∙_}
 use mathlib.Core.Logic.{_⊎_, inl, inr, ⊎-elim, _≢_}
-use mathlib.Core.Bool.{Bool, true, false, cond, _&&_, _||_, true≢false, false≢true}
+use mathlib.Core.Bool.{Bool, true, false, _&&_, _||_, true≢false, false≢true}
 use mathlib.Core.List.{List, [], _∷_}
 use Prim.Native.Nat.{ℕ}
 use lib.Dec.{eqb}
 use lib.IntN.{ℤ, pos, negsuc}
-use lib.ListN.{getD, set}
+use lib.ListN.{getD}
 use lib.Seq.{getD-set-other, set-comm}
 use borrow.Author.Tests.{eqb-true, eqb-false, eq-eqb}
 use Rattle.records.specs.declared.body.BodyState.{BodyState}
@@ -23,7 +23,7 @@ use Rattle.records.specs.Joint.{unusedJoint}
 use Rattle.joint.specs.Index.{indexA, indexB}
 use Rattle.scene.specs.Scene.{jointAt, Dynamic, Names, ShareDynamic}
 use Rattle.scene.specs.Calls.{Call, calls, onlyOf, onlyOfTwo}
-use Rattle.scene.specs.Plain.{storeBoth, placed, stageAt, step, done, Accepted, plainRun}
+use Rattle.scene.specs.Plain.{placed, stageAt, step, done, Accepted, plainRun}
 use Rattle.scene.specs.Stores.{clash, clash-at, Clear, both-unseen, both-swap}
 use Rattle.scene.specs.Framed.{Framed, framed-start, framed-step, fixed-at}
 
@@ -173,10 +173,10 @@ module _ (s t : Scene) (f : Framed s t) where
       let xb = indexB (jointAt t i .«union_») in
       let ya = indexA (jointAt t k .«union_») in
       let yb = indexB (jointAt t k .«union_») in
-      let aa = clash-kept xa ya _ _ (ap (λ x. x .first) fi) (ap (λ x. x .first) fk) (q .0) in
-      let ab = clash-kept xa yb _ _ (ap (λ x. x .first) fi) (ap (λ x. x .second) fk) (q .1) in
-      let ba = clash-kept xb ya _ _ (ap (λ x. x .second) fi) (ap (λ x. x .first) fk) (r .0) in
-      let bb = clash-kept xb yb _ _ (ap (λ x. x .second) fi) (ap (λ x. x .second) fk) (r .1) in
+      let aa = clash-kept xa ya _ _ (fi .index-a) (fk .index-a) (q .0) in
+      let ab = clash-kept xa yb _ _ (fi .index-a) (fk .index-b) (q .1) in
+      let ba = clash-kept xb ya _ _ (fi .index-b) (fk .index-a) (r .0) in
+      let bb = clash-kept xb yb _ _ (fi .index-b) (fk .index-b) (r .1) in
       let turn = clash-turned (t .bodies) in
       swap-calls a b t (eqb-false i k (o .0)) (aa, ba) (ab, bb) (turn xa ya aa, turn xa yb ab) (turn xb ya ba, turn xb yb bb)
 

@@ -1,9 +1,9 @@
 -- The claims of Claims.antt, proved, each under its statement's name in small letters. Assumes nothing.
 use mathlib.Core.Path.{_≡_, refl, sym, ap, _∙_, subst}
-use mathlib.Core.Logic.{_⊎_, inl, inr, ⊎-elim, _≢_, _↔_, Iff·trans}
+use mathlib.Core.Logic.{inl, inr, _≢_, _↔_}
 use mathlib.Core.Bool.{Bool, true, false}
-use mathlib.Core.List.{List, [], _∷_, _++_}
-use Prim.Native.Nat.{ℕ, zero, suc, _+_, _%_, _<_}
+use mathlib.Core.List.{List, []}
+use Prim.Native.Nat.{ℕ, _<_}
 use native.Mathlib.Omega.{arith}
 use lib.Dec.{eqb}
 use lib.Ieee.{Float}
@@ -12,17 +12,17 @@ use borrow.Author.Tests.{eqb-true, eqb-false}
 use Rattle.records.specs.declared.body.BodyState.{BodyState}
 use Rattle.records.specs.declared.joint.JointBase.{JointBase}
 use Rattle.records.specs.declared.joint.JointUnion.{JointUnion}
+use Rattle.records.specs.declared.joint.JointUnion.the-variants.{Revolute, Spherical, Weld, Other}
 use Rattle.records.specs.declared.joint.JointSim.{JointSim}
 use Rattle.constraint.specs.Answer.{jointSim}
 use Rattle.joint.specs.Stage.{stageJoint}
 use Rattle.scene.specs.declared.Scene.{Scene}
-use Rattle.scene.specs.declared.Verdict.{Verdict}
 use Rattle.scene.specs.Scene.{jointAt, bodyAt}
-use Rattle.scene.specs.Calls.{Call, calls}
-use Rattle.scene.specs.Plain.{verdict, Accepted, cause, runCalls, isStill, done, refused, plainRun}
-use Rattle.scene.specs.Claims.{Numbers, Acceptance, Refusal, Midway, Stillness, SameVelocities, NoNaN, EmptyList, OfEmpty, Order, OrderCounted, Changes, OnlyChanges, Cause6, Cause7, callTests, tests, NoCause, FirstCause, LimitsPush, Limits, Differ, Agree}
+use Rattle.scene.specs.Calls.{calls}
+use Rattle.scene.specs.Plain.{verdict, Accepted, runCalls, isStill, plainRun}
+use Rattle.scene.specs.Claims.{Numbers, Acceptance, Refusal, Midway, Stillness, SameVelocities, NoNaN, EmptyList, Order, OrderCounted, Changes, ChangesMidway, OnlyChanges, Cause6, Cause7, tests, settingsOf, limitsOf, LimitsPush, Limits, Differ, Agree}
 use Rattle.scene.specs.Accepted.{verdict-answers, answers-numbers, answers-none, run-accepted, run-refused, run-verdict, accepted-calls, no-cause-kept, no-cause-at}
-use Rattle.scene.specs.Stages.{warm-keeps, solve-limits}
+use Rattle.scene.specs.Stages.{no-limits, stage-keeps, warm-keeps, solve-limits}
 use Rattle.scene.specs.Settled.{settled}
 use Rattle.scene.specs.Framed.{framed, fixed-at}
 use Rattle.scene.specs.Still.{same-below, same-self}
@@ -101,6 +101,9 @@ order-counted = same-answer-counted
 
 -- ---- what may change
 
+pub changes-midway : ChangesMidway
+changes-midway = only-changes
+
 pub changes : Changes
 changes s l = by (eqb (verdict s l .number) 0) refl
   where
@@ -110,22 +113,48 @@ changes s l = by (eqb (verdict s l .number) 0) refl
 
 -- ---- limits
 
+limit-stays : (u : JointUnion) → limitsOf (settingsOf u) .limit-on ≡ limitsOf u .limit-on
+limit-stays (Revolute r) = refl
+limit-stays (Spherical r) = refl
+limit-stays (Weld r) = refl
+limit-stays Other = refl
+
+cone-stays : (u : JointUnion) → limitsOf (settingsOf u) .cone-on ≡ limitsOf u .cone-on
+cone-stays (Revolute r) = refl
+cone-stays (Spherical r) = refl
+cone-stays (Weld r) = refl
+cone-stays Other = refl
+
+-- the switches are settings
+push-from : (u v w : JointUnion) → settingsOf u ≡ settingsOf w → LimitsPush u v → LimitsPush w v
+push-from u v w e p =
+    let limit : limitsOf u .limit-on ≡ limitsOf w .limit-on = sym (limit-stays u) ∙ ap (λ x. limitsOf x .limit-on) e ∙ limit-stays w in
+    let cone : limitsOf u .cone-on ≡ limitsOf w .cone-on = sym (cone-stays u) ∙ ap (λ x. limitsOf x .cone-on) e ∙ cone-stays w in
+    record { lower = λ on. p .lower (limit ∙ on); upper = λ on. p .upper (limit ∙ on); swing = λ on. p .swing (cone ∙ on) }
+
 -- what each solve of a joint brings about
 abbrev Settled : JointSim → Type 0
-Settled j = j .base .«fixed_rotation» ≡ false → LimitsPush (j .«union_»)
+Settled j = j .base .«fixed_rotation» ≡ false → LimitsPush (j .«union_») (j .«union_»)
+
+settles : (u : JointUnion) (base : JointBase) (h invH : Float) (a b : BodyState) (stage : ℕ) → stage ≢ 0 → Settled (jointSim base (stageJoint u base h invH a b stage .«union_»))
+settles u base h invH a b stage ne free =
+    let next = stageJoint u base h invH a b stage .«union_» in
+    push-from u next next (sym (stage-keeps base h invH a b stage u)) (solve-limits base h invH a b stage u ne free)
 
 settled-stays : (u : JointUnion) (base : JointBase) (h invH : Float) (a b : BodyState) (stage : ℕ) → Settled (jointSim base u) → Settled (jointSim base (stageJoint u base h invH a b stage .«union_»))
 settled-stays u base h invH a b stage p = by (eqb stage 0) refl
   where
     by : (x : Bool) → eqb stage 0 ≡ x → Settled (jointSim base (stageJoint u base h invH a b stage .«union_»))
     by true e = rw (warm-keeps base h invH a b stage u (eqb-true stage 0 e)) p
-    by false e = λ free. solve-limits base h invH a b stage u (eqb-false stage 0 e) free
+    by false e = settles u base h invH a b stage (eqb-false stage 0 e)
 
 pub limits : Limits
 limits s l accepted j solved free =
+    let t = runCalls (calls l) s in
+    let same = fixed-at s t (framed s (calls l)) j in
     rw (run-accepted s l accepted)
-    (settled Settled (λ f. tt) (λ u base h invH a b stage ne f. solve-limits base h invH a b stage u ne f) settled-stays (calls l) s j solved
-    (ap (λ x. x .base .«fixed_rotation») (fixed-at s (runCalls (calls l) s) (framed s (calls l)) j) ∙ free))
+    (push-from (jointAt t j .«union_») (jointAt t j .«union_») (jointAt s j .«union_») (same .settings)
+    (settled Settled (λ f. no-limits Other Other refl refl) settles settled-stays (calls l) s j solved (ap (λ x. x .«fixed_rotation») (same .base) ∙ free)))
 
 -- ---- the examples
 

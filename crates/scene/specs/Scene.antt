@@ -9,6 +9,7 @@ use lib.ListN.{getD, set, replicate}
 use Rattle.math_functions.specs.declared.types.Vec3.{Vec3}
 use Rattle.solver.specs.declared.StepContext.{StepContext}
 use Rattle.records.specs.declared.body.BodyState.{BodyState}
+use Rattle.records.specs.declared.joint.JointUnion.{JointUnion}
 use Rattle.records.specs.declared.joint.JointSim.{JointSim}
 use Rattle.records.specs.Body.{isDynamic, storeVelocities, identityBodyState}
 use Rattle.records.specs.Joint.{unusedJoint}
@@ -49,8 +50,11 @@ abbrev pub Dynamic : Scene → ℕ → Type 0
 Dynamic s n = isDynamic (bodyAt s n) ≡ true
 
 -- 'a joint names the bodies at its two indices; -1 is none'
+abbrev pub NamesBody : JointUnion → ℕ → Type 0
+NamesBody union n = (indexA union ≡ pos n) ⊎ (indexB union ≡ pos n)
+
 abbrev pub Names : Scene → ℕ → ℕ → Type 0
-Names s j n = (indexA (jointAt s j .«union_») ≡ pos n) ⊎ (indexB (jointAt s j .«union_») ≡ pos n)
+Names s j n = NamesBody (jointAt s j .«union_») n
 
 -- 'two joints share a body if both name it', and here one that is dynamic
 abbrev pub ShareDynamic : Scene → ℕ → ℕ → Type 0

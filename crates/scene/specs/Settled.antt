@@ -1,13 +1,12 @@
 -- What each solve of a joint brings about, and each call of it keeps, holds at the end of every list that solves the joint. Assumes nothing.
 use mathlib.Core.Path.{_≡_, refl, sym, ap, _∙_, subst}
-use mathlib.Core.Logic.{_⊎_, inl, inr, _≢_}
+use mathlib.Core.Logic.{inl, inr, _≢_}
 use mathlib.Core.Bool.{Bool, true, false}
 use mathlib.Core.List.{List, [], _∷_}
 use Prim.Native.Nat.{ℕ, _≤_, _<_}
-use native.Mathlib.Omega.{arith}
 use lib.Dec.{eqb, leb}
 use lib.Ieee.{Float}
-use lib.ListN.{length, getD, set, List·getD-eq-default}
+use lib.ListN.{length, getD, List·getD-eq-default}
 use lib.Seq.{getD-set-same, set-out}
 use borrow.Author.Tests.{eqb-true, eqb-false, leb-true, leb-false}
 use Rattle.records.specs.declared.body.BodyState.{BodyState}
@@ -20,7 +19,7 @@ use Rattle.scene.specs.declared.Scene.{Scene}
 use Rattle.scene.specs.Reorder.{runAll}
 use Rattle.records.specs.Joint.{unusedJoint}
 use Rattle.scene.specs.Scene.{jointAt}
-use Rattle.scene.specs.Calls.{Call, Some, Solved}
+use Rattle.scene.specs.Calls.{Call, Solved}
 use Rattle.scene.specs.Plain.{stageAt, step}
 use Rattle.scene.specs.Changes.{call-keeps-joint}
 

@@ -1,11 +1,11 @@
 -- Stores at two indices: what a store leaves of a body, and when two stores may change places. Assumes nothing.
 use mathlib.Core.Path.{_≡_, refl, sym, ap, _∙_}
-use mathlib.Core.Bool.{Bool, true, false, cond, _&&_, true≢false}
+use mathlib.Core.Bool.{Bool, true, false, cond, _&&_}
 use mathlib.Core.List.{List, map}
 use Prim.Native.Nat.{ℕ}
 use lib.Dec.{eqb}
 use lib.IntN.{ℤ, pos, negsuc}
-use lib.ListN.{getD, set, List·getD-map}
+use lib.ListN.{getD, List·getD-map}
 use lib.Seq.{getD-set-other, set-getD, set-comm, map-set-same}
 use borrow.Author.Tests.{eqb-true, eqb-false}
 use Rattle.math_functions.specs.declared.types.Vec3.{Vec3}
@@ -78,7 +78,7 @@ not-dynamic : (b d : Bool) → b ≡ true → b && d ≡ false → d ≡ false
 not-dynamic b d e h = rw e at h
 
 -- a store is not seen at another body
-elsewhere : (bs : List BodyState) (m n : ℕ) (v w : Vec3) → (m ≡ n → ⊥) → getD (store bs (pos m) v w) n identityBodyState ≡ getD bs n identityBodyState
+pub elsewhere : (bs : List BodyState) (m n : ℕ) (v w : Vec3) → (m ≡ n → ⊥) → getD (store bs (pos m) v w) n identityBodyState ≡ getD bs n identityBodyState
 unfolding store
 elsewhere bs m n v w ne = getD-set-other bs m n _ identityBodyState (λ e. ne (sym e))
 

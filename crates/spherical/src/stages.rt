@@ -11,14 +11,17 @@ use constraint::angular::AxialRow;
 use constraint::angular::LimitRows;
 use constraint::angular::Row3;
 use constraint::angular::is_worked;
-use constraint::angular::twist_limit_rows;
+use constraint::angular::lower_limit_row;
+use constraint::angular::upper_limit_row;
 use constraint::rotation::RelativeRotation;
 use constraint::rotation::relative_rotation;
+use constraint::soft::limit_bias;
 use constraint::velocity::InvMasses;
 use constraint::velocity::Velocities;
 use constraint::velocity::apply_warm;
 use constraint::velocity::inv_masses_of;
 use constraint::velocity::velocities_of;
+use math_functions::quat::get_twist_angle;
 use math_functions::quat::rotate_vector;
 use math_functions::types::Quat;
 use math_functions::vector::add;
@@ -107,21 +110,28 @@ fn solve_twist(
 ) -> LimitRows
     ensures { λ r. ⌜ r ≡ Angular.twistLimitRows (Angular.isWorked (joint .«enable_twist_limit») (base .«fixed_rotation»)) «rel_q» (joint .«lower_twist_angle») (joint .«upper_twist_angle») (base .«constraint_softness») «inv_h» «use_bias» (joint .«twist_mass») (joint .«twist_jacobian») (joint .«lower_twist_impulse») (joint .«upper_twist_impulse») m v ⌝ }
 {
-    twist_limit_rows(
-        is_worked(joint.enable_twist_limit, base.fixed_rotation),
-        rel_q,
-        joint.lower_twist_angle,
-        joint.upper_twist_angle,
-        base.constraint_softness,
-        inv_h,
-        use_bias,
-        joint.twist_mass,
-        joint.twist_jacobian,
-        joint.lower_twist_impulse,
-        joint.upper_twist_impulse,
-        m,
-        v,
-    )
+    if !is_worked(joint.enable_twist_limit, base.fixed_rotation) {
+        return LimitRows {
+            lower_impulse: joint.lower_twist_impulse,
+            upper_impulse: joint.upper_twist_impulse,
+            velocities: v,
+        };
+    }
+    let softness = base.constraint_softness;
+    let mass = joint.twist_mass;
+    let axis = joint.twist_jacobian;
+    let angle = get_twist_angle(rel_q);
+    let lower_bias = limit_bias(angle - joint.lower_twist_angle, softness, inv_h, use_bias);
+    let lower = lower_limit_row(lower_bias, mass, axis, joint.lower_twist_impulse, m, v);
+    let v = lower.velocities;
+    let upper_bias = limit_bias(joint.upper_twist_angle - angle, softness, inv_h, use_bias);
+    let upper = upper_limit_row(upper_bias, mass, axis, joint.upper_twist_impulse, m, v);
+    let velocities = upper.velocities;
+    LimitRows {
+        lower_impulse: lower.impulse,
+        upper_impulse: upper.impulse,
+        velocities,
+    }
 }
 
 fn solve_cone(

@@ -7,7 +7,8 @@ use constraint::angular::Row3;
 use constraint::prepare::awake_index;
 use constraint::prepare::prepare_base;
 use constraint::prepare::prepare_frame;
-use constraint::rotation::flipped_relative_rotation;
+use constraint::rotation::RelativeRotation;
+use constraint::rotation::same_polarity;
 use constraint::velocity::InvMasses;
 use constraint::velocity::Velocities;
 use constraint::velocity::apply_warm;
@@ -15,6 +16,8 @@ use constraint::velocity::inv_masses_of;
 use constraint::velocity::velocities_of;
 use math_functions::matrix::add_mm;
 use math_functions::matrix::invert_matrix;
+use math_functions::quat::inv_mul_quat;
+use math_functions::quat::mul_quat;
 use math_functions::quat::rotate_vector;
 use math_functions::transform::sub_pos;
 use math_functions::types::VEC3_ZERO;
@@ -120,12 +123,10 @@ pub fn solve_angular(
 ) -> Row3
     ensures { λ r. ⌜ r ≡ D.solveAngular «fixed_rotation» joint «state_a» «state_b» «use_bias» m v ⌝ }
 {
-    let rotation = flipped_relative_rotation(
-        state_a.delta_rotation,
-        joint.frame_a.q,
-        state_b.delta_rotation,
-        joint.frame_b.q,
-    );
+    let quat_a = mul_quat(state_a.delta_rotation, joint.frame_a.q);
+    let quat_b = same_polarity(quat_a, mul_quat(state_b.delta_rotation, joint.frame_b.q));
+    let rel_q = inv_mul_quat(quat_a, quat_b);
+    let rotation = RelativeRotation { quat_a, rel_q };
     weld_angular_row(
         !fixed_rotation,
         rotation,

@@ -1,11 +1,18 @@
 //! Writes lists of test cases: which function, the input words, the words that the published Rust
 //! answered. See README.md.
 
+mod call_list_edges;
+mod call_list_scenes;
+mod call_lists;
 mod cases;
+mod direct;
+mod direct_edges;
 mod draw;
 mod edges;
 mod leaves;
+mod plain_run;
 mod records;
+mod reorder;
 mod scene;
 mod stage_edges;
 mod stages;
@@ -24,23 +31,33 @@ published! {
 }
 
 use cases::{List, Step};
+use reorder::Tally;
 use std::io::{self, ErrorKind};
 use std::process::ExitCode;
 
 /// The groups of cases, in the order of their counts on the command line.
-const GROUPS: &[(&str, fn(u64, &mut List) -> Step)] =
-    &[("LEAVES", leaves::write), ("STAGES", stages::write)];
+const GROUPS: &[(&str, fn(u64, &mut List) -> Step)] = &[
+    ("LEAVES", leaves::write),
+    ("STAGES", stages::write),
+    ("DIRECT", direct::write),
+    ("LISTS", call_lists::write),
+];
 
 /// What the command line asks for.
 enum Task {
     /// The seed, and how many cases of each group.
     Cases(u64, Vec<u64>),
     AllRoots,
+    /// The seed, and how many scenes.
+    Reorder(u64, u64),
 }
 
 fn parse(arguments: &[String]) -> Option<Task> {
     match arguments {
         [word] if word == "all-sqrt" => Some(Task::AllRoots),
+        [word, seed, count] if word == "reorder" => {
+            Some(Task::Reorder(seed.parse().ok()?, count.parse().ok()?))
+        }
         [seed, counts @ ..] if !counts.is_empty() && counts.len() <= GROUPS.len() => {
             let counts: Result<_, _> = counts.iter().map(|count| count.parse()).collect();
             Some(Task::Cases(seed.parse().ok()?, counts.ok()?))
@@ -58,15 +75,32 @@ fn write(task: Task) -> io::Result<()> {
             }
         }
         Task::AllRoots => list.group(1 << 32, leaves::write_all_roots)?,
+        Task::Reorder(seed, count) => write_reordered(seed, count, &mut list)?,
     }
     list.flush()
+}
+
+/// Writes the cases of reordered lists, and a line of what became of them to standard error.
+fn write_reordered(seed: u64, count: u64, list: &mut List) -> io::Result<()> {
+    let mut tally = Tally::default();
+    list.group(u64::MAX, |list| {
+        reorder::write(seed, count, list, &mut tally)
+    })?;
+    eprintln!(
+        "{} within: {}; outside: {}, {}",
+        tally.scenes, tally.within_differing, tally.outside, tally.outside_differing
+    );
+    Ok(())
 }
 
 fn main() -> ExitCode {
     let arguments: Vec<String> = std::env::args().skip(1).collect();
     let Some(task) = parse(&arguments) else {
         let groups: Vec<&str> = GROUPS.iter().map(|(name, _)| *name).collect();
-        eprintln!("usage: oracle SEED {} | oracle all-sqrt", groups.join(" "));
+        eprintln!(
+            "usage: oracle SEED {} | oracle all-sqrt | oracle reorder SEED COUNT",
+            groups.join(" ")
+        );
         return ExitCode::from(2);
     };
     match write(task) {

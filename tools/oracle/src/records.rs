@@ -15,6 +15,18 @@ pub enum Kind {
     Weld,
 }
 
+/// All kinds, in their order.
+pub const KINDS: [Kind; 3] = [Kind::Revolute, Kind::Spherical, Kind::Weld];
+
+/// The type of a joint of the kind.
+pub fn joint_type(kind: Kind) -> JointType {
+    match kind {
+        Kind::Revolute => JointType::Revolute,
+        Kind::Spherical => JointType::Spherical,
+        Kind::Weld => JointType::Weld,
+    }
+}
+
 /// What prepare reads of a body: of `Body` the set and the place in it, of `BodySim` the rest.
 #[derive(Clone, Copy)]
 pub struct BodyRecord {
@@ -204,14 +216,14 @@ pub fn read_joint(kind: Kind, from: &mut &[u32]) -> JointSim {
     joint
 }
 
-/// Does the same with the record of a joint, whatever its kind.
+/// Does the same with the record of a joint, whatever its kind; the empty case has none.
 macro_rules! with_record {
-    ($union:expr, $record:ident => $body:expr) => {
+    ($union:expr, $record:ident => $body:expr, empty => $other:expr) => {
         match $union {
             JointUnion::Revolute($record) => $body,
             JointUnion::Spherical($record) => $body,
             JointUnion::Weld($record) => $body,
-            _ => unreachable!("the joint is of no kind that is asked"),
+            _ => $other,
         }
     };
 }
@@ -219,13 +231,13 @@ macro_rules! with_record {
 /// Appends a joint, its record included, to `to`.
 pub fn write_joint(joint: &JointSim, to: &mut Vec<u32>) {
     joint.write(to);
-    with_record!(&joint.union_, record => record.write(to));
+    with_record!(&joint.union_, record => record.write(to), empty => {});
 }
 
 /// Shows each float of a joint, its record included, to `visit`.
 pub fn visit_joint(joint: &mut JointSim, visit: &mut dyn FnMut(&mut f32)) {
     joint.visit_floats(visit);
-    with_record!(&mut joint.union_, record => record.visit_floats(visit));
+    with_record!(&mut joint.union_, record => record.visit_floats(visit), empty => {});
 }
 
 /// For each body the index of its state and its frame.
@@ -233,7 +245,54 @@ pub fn sides(joint: &mut JointSim) -> [(&mut i32, &mut Transform); 2] {
     with_record!(&mut joint.union_, record => [
         (&mut record.index_a, &mut record.frame_a),
         (&mut record.index_b, &mut record.frame_b),
-    ])
+    ], empty => unreachable!("the empty case has no sides"))
+}
+
+/// The indices of a joint's two states.
+pub fn indices(joint: &JointSim) -> [i32; 2] {
+    let mut joint = *joint;
+    sides(&mut joint).map(|(index, _)| *index)
+}
+
+pub fn set_indices(joint: &mut JointSim, indices: [i32; 2]) {
+    for ((place, _), index) in sides(joint).into_iter().zip(indices) {
+        *place = index;
+    }
+}
+
+/// The empty case. It stands for every kind that is not asked, and no stage is called on it.
+pub const EMPTY: JointUnion = JointUnion::Filter;
+
+/// The kind of a joint's case; the empty case has none.
+pub fn kind_of(joint: &JointSim) -> Option<Kind> {
+    match joint.union_ {
+        JointUnion::Revolute(_) => Some(Kind::Revolute),
+        JointUnion::Spherical(_) => Some(Kind::Spherical),
+        JointUnion::Weld(_) => Some(Kind::Weld),
+        _ => None,
+    }
+}
+
+/// The word of a joint's case: the place of its kind in `KINDS`, or the next for the empty case.
+pub fn case_word(joint: &JointSim) -> u32 {
+    kind_of(joint).map_or(KINDS.len() as u32, |kind| kind as u32)
+}
+
+/// Takes the word of a case and a joint of that case off the front of `from`.
+pub fn read_cased_joint(from: &mut &[u32]) -> JointSim {
+    match KINDS.get(u32::read(from) as usize) {
+        Some(kind) => read_joint(*kind, from),
+        None => JointSim {
+            union_: EMPTY,
+            ..JointSim::read(from)
+        },
+    }
+}
+
+/// Appends the word of its case and the joint to `to`.
+pub fn write_cased_joint(joint: &JointSim, to: &mut Vec<u32>) {
+    to.push(case_word(joint));
+    write_joint(joint, to);
 }
 
 /// Do the ids of the joint, or the places of the bodies, lead to one body? Then both must have the

@@ -5,9 +5,11 @@ use crate::cases::Random;
 use crate::core::NULL_INDEX;
 use crate::draw::{pattern, sound_of, tame};
 use crate::edges;
-use crate::joint::{JointSim, JointType, JointUnion, RevoluteJoint, SphericalJoint, WeldJoint};
+use crate::joint::{JointSim, JointUnion, RevoluteJoint, SphericalJoint, WeldJoint};
 use crate::math_functions::*;
-use crate::records::{one_body, sides, visit_joint, BodyRecord, Kind, JOINT_TYPES};
+use crate::records::{
+    joint_type, one_body, set_indices, sides, visit_joint, BodyRecord, Kind, JOINT_TYPES,
+};
 use crate::solver::{make_soft, Softness, StepContext};
 use crate::solver_set::AWAKE_SET;
 use crate::stages::{self, Stage};
@@ -74,6 +76,33 @@ impl Scene {
         scene
     }
 
+    /// A prepared joint between two bodies of a larger scene, which has these states.
+    pub fn between(
+        random: &mut Random,
+        kind: Kind,
+        context: StepContext,
+        states: &[BodyState],
+        bodies: [BodyRecord; 2],
+        indices: [i32; 2],
+    ) -> Scene {
+        let mut joint = joint(random, kind, context.h);
+        // An id for each place of that scene, and one for what has none.
+        [joint.body_id_a, joint.body_id_b] = indices.map(|index| index + 1);
+        fit(random, &mut joint, kind, &bodies);
+        let mut scene = Scene {
+            kind,
+            joint,
+            context,
+            bodies,
+            states: states.to_vec(),
+            use_bias: false,
+        };
+        scene.settle();
+        scene.prepare();
+        scene.place(random, indices);
+        scene
+    }
+
     /// Two bodies at one place are the same body.
     fn settle(&mut self) {
         if one_body(&self.joint, &self.bodies) {
@@ -109,20 +138,28 @@ impl Scene {
     /// four is not prepared: its frames, axes and masses do not fit the bodies.
     fn ready(&mut self, random: &mut Random, indices: [i32; 2]) {
         if !random.one_in(4) {
-            let context = StepContext {
-                enable_warm_starting: true,
-                ..self.context
-            };
-            stages::prepare(self.kind, &mut self.joint, &context, &self.bodies);
+            self.prepare();
         }
+        self.place(random, indices);
+    }
+
+    /// Prepares the joint, its impulses kept.
+    fn prepare(&mut self) {
+        let context = StepContext {
+            enable_warm_starting: true,
+            ..self.context
+        };
+        stages::prepare(self.kind, &mut self.joint, &context, &self.bodies);
+    }
+
+    /// Gives the joint its indices, and mostly limits that are near.
+    fn place(&mut self, random: &mut Random, indices: [i32; 2]) {
         if random.one_in(12) {
             self.joint.fixed_rotation = true;
         } else if random.one_in(3) {
             self.joint.fixed_rotation = false;
         }
-        for ((place, _), index) in sides(&mut self.joint).into_iter().zip(indices) {
-            *place = index;
-        }
+        set_indices(&mut self.joint, indices);
         if !random.one_in(8) {
             self.near_limits(random);
         }
@@ -185,11 +222,7 @@ impl Scene {
 
     /// Changes one float in `rate`.
     fn change(&mut self, random: &mut Random, rate: u32, change: Change) {
-        let mut visit = |x: &mut f32| {
-            if random.one_in(rate) {
-                *x = change(random, *x);
-            }
-        };
+        let mut visit = changer(random, rate, change);
         visit_joint(&mut self.joint, &mut visit);
         self.context.visit_floats(&mut visit);
         for body in &mut self.bodies {
@@ -216,13 +249,22 @@ impl Scene {
 }
 
 /// What a float is changed to.
-type Change = fn(&mut Random, f32) -> f32;
+pub type Change = fn(&mut Random, f32) -> f32;
+
+/// Changes one in `rate` of the floats that it is shown.
+pub fn changer(random: &mut Random, rate: u32, change: Change) -> impl FnMut(&mut f32) + '_ {
+    move |x| {
+        if random.one_in(rate) {
+            *x = change(random, *x);
+        }
+    }
+}
 
 /// How the floats of a wild case are changed, all in one of these ways.
-const WILD: [Change; 6] = [patterns, bits, subnormal, simple, sized, changed];
+pub const WILD: [Change; 6] = [patterns, bits, subnormal, simple, sized, changed];
 
 /// Each float in a way of its own.
-fn changed(random: &mut Random, x: f32) -> f32 {
+pub fn changed(random: &mut Random, x: f32) -> f32 {
     let ways = [
         patterns, bits, subnormal, simple, sized, negative, neighbour,
     ];
@@ -259,7 +301,7 @@ fn neighbour(random: &mut Random, x: f32) -> f32 {
     f32::from_bits(x.to_bits().wrapping_add_signed(step))
 }
 
-fn choose<T: Copy>(random: &mut Random, from: &[T]) -> T {
+pub fn choose<T: Copy>(random: &mut Random, from: &[T]) -> T {
     from[random.below(from.len() as u32) as usize]
 }
 
@@ -274,7 +316,7 @@ fn positive(random: &mut Random, low: i32, high: i32) -> f32 {
 }
 
 /// A vector with components of like size.
-fn vector(random: &mut Random, low: i32, high: i32) -> Vec3 {
+pub fn vector(random: &mut Random, low: i32, high: i32) -> Vec3 {
     let size = random.power(low, high);
     let [x, y, z] = [0; 3].map(|_| (size * random.even()) as f32);
     Vec3 { x, y, z }
@@ -293,7 +335,7 @@ fn small_rotation(random: &mut Random) -> Quat {
     rotation(vector(random, -12, -2))
 }
 
-fn context(random: &mut Random) -> StepContext {
+pub fn context(random: &mut Random) -> StepContext {
     let rates = [60.0, 90.0, 100.0, 120.0, 144.0, 180.0, 360.0, 480.0];
     let rate = if random.one_in(2) {
         240.0
@@ -319,10 +361,15 @@ fn context(random: &mut Random) -> StepContext {
     }
 }
 
-/// Up to three states, and the indices of two of them: mostly different ones, now and then one of
-/// both, or none.
+/// Up to three states, and the indices of two of them.
 fn states(random: &mut Random) -> (Vec<BodyState>, [i32; 2]) {
     let count = choose(random, &[0, 1, 1, 1, 2, 2, 2, 2, 2, 2, 3, 3]);
+    let indices = indices(random, count);
+    ((0..count).map(|_| state(random)).collect(), indices)
+}
+
+/// The indices of two of `count` states: mostly different ones, now and then one of both, or none.
+pub fn indices(random: &mut Random, count: u32) -> [i32; 2] {
     let mut index = || {
         if count == 0 || random.one_in(6) {
             NULL_INDEX
@@ -338,10 +385,10 @@ fn states(random: &mut Random) -> (Vec<BodyState>, [i32; 2]) {
             (a + 1) % count as i32
         };
     }
-    ((0..count).map(|_| state(random)).collect(), [a, b])
+    [a, b]
 }
 
-fn state(random: &mut Random) -> BodyState {
+pub fn state(random: &mut Random) -> BodyState {
     let mut velocity = || {
         if random.one_in(16) {
             VEC3_ZERO
@@ -367,39 +414,41 @@ fn state(random: &mut Random) -> BodyState {
     }
 }
 
-/// Two bodies, awake if they have a state. What has none is mostly static.
 fn bodies(random: &mut Random, indices: [i32; 2]) -> [BodyRecord; 2] {
     let masses = masses(random);
-    [0, 1].map(|i| {
-        let asleep = indices[i] == NULL_INDEX;
-        let (inv_mass, inv_inertia_world) = if asleep && !random.one_in(4) {
-            (0.0, MAT3_ZERO)
+    [0, 1].map(|i| body(random, indices[i], masses[i]))
+}
+
+/// A body with an inverse mass and inertia, awake if it has a state. What has none is mostly static.
+pub fn body(random: &mut Random, index: i32, mass: (f32, Matrix3)) -> BodyRecord {
+    let asleep = index == NULL_INDEX;
+    let (inv_mass, inv_inertia_world) = if asleep && !random.one_in(4) {
+        (0.0, MAT3_ZERO)
+    } else {
+        mass
+    };
+    BodyRecord {
+        set_index: if asleep {
+            choose(random, &[0, 0, 1, 3, 4])
         } else {
-            masses[i]
-        };
-        BodyRecord {
-            set_index: if asleep {
-                choose(random, &[0, 0, 1, 3, 4])
-            } else {
-                AWAKE_SET
-            },
-            local_index: if asleep {
-                random.below(PLACES) as i32
-            } else {
-                indices[i]
-            },
-            inv_mass,
-            inv_inertia_world,
-            rotation: sound_of(random),
-            center: vector(random, -2, 7),
-            local_center: vector(random, -6, 0),
-        }
-    })
+            AWAKE_SET
+        },
+        local_index: if asleep {
+            random.below(PLACES) as i32
+        } else {
+            index
+        },
+        inv_mass,
+        inv_inertia_world,
+        rotation: sound_of(random),
+        center: vector(random, -2, 7),
+        local_center: vector(random, -6, 0),
+    }
 }
 
 /// The inverse masses and inertias of two bodies. Now and then one of them, or both, does not move
 /// or does not turn.
-fn masses(random: &mut Random) -> [(f32, Matrix3); 2] {
+pub fn masses(random: &mut Random) -> [(f32, Matrix3); 2] {
     let mut masses = [0; 2].map(|_| (positive(random, -6, 6), sound_of(random)));
     let [a, b] = &mut masses;
     match random.below(24) {
@@ -429,11 +478,7 @@ fn joint(random: &mut Random, kind: Kind, h: f32) -> JointSim {
         joint_id: random.word() as i32,
         body_id_a: body_id_a as i32,
         body_id_b: body_id_b as i32,
-        type_: match kind {
-            Kind::Revolute => JointType::Revolute,
-            Kind::Spherical => JointType::Spherical,
-            Kind::Weld => JointType::Weld,
-        },
+        type_: joint_type(kind),
         local_frame_a: frame(random),
         local_frame_b: frame(random),
         inv_mass_a,
@@ -587,10 +632,9 @@ fn gap(random: &mut Random) -> f32 {
 /// Hangs body B on body A: the frames meet but for a small error, and are turned against each other
 /// as far as the kind lets them. Now and then their axes are the same or opposite to the bit.
 fn hang(random: &mut Random, joint: &mut JointSim, kind: Kind, bodies: &mut [BodyRecord; 2]) {
+    turn_frame(random, joint, kind, bodies);
     let [a, b] = bodies;
     let [frame_a, frame_b] = [&mut joint.local_frame_a, &mut joint.local_frame_b];
-    let rotation = mul_quat(a.rotation, frame_a.q);
-    frame_b.q = inv_mul_quat(b.rotation, mul_quat(rotation, turned(random, kind)));
     match random.below(16) {
         0 => (b.rotation, frame_b.q) = (a.rotation, frame_a.q),
         1 => {
@@ -607,6 +651,24 @@ fn hang(random: &mut Random, joint: &mut JointSim, kind: Kind, bodies: &mut [Bod
     let arm_b = rotate_vector(b.rotation, sub(frame_b.p, b.local_center));
     let error = vector(random, -12, -3);
     b.center = add(add(a.center, sub(arm_a, arm_b)), error);
+}
+
+/// Hangs the joint between two bodies that stay where they are: the frames meet but for a small
+/// error.
+fn fit(random: &mut Random, joint: &mut JointSim, kind: Kind, bodies: &[BodyRecord; 2]) {
+    turn_frame(random, joint, kind, bodies);
+    let [a, b] = bodies;
+    let arm_a = rotate_vector(a.rotation, sub(joint.local_frame_a.p, a.local_center));
+    let anchor = add(add(a.center, arm_a), vector(random, -12, -3));
+    let arm_b = inv_rotate_vector(b.rotation, sub(anchor, b.center));
+    joint.local_frame_b.p = add(b.local_center, arm_b);
+}
+
+/// Turns frame B against frame A as far as the kind lets it.
+fn turn_frame(random: &mut Random, joint: &mut JointSim, kind: Kind, [a, b]: &[BodyRecord; 2]) {
+    let rotation = mul_quat(a.rotation, joint.local_frame_a.q);
+    let rotation = mul_quat(rotation, turned(random, kind));
+    joint.local_frame_b.q = inv_mul_quat(b.rotation, rotation);
 }
 
 pub const HALF_TURN_X: Quat = Quat {

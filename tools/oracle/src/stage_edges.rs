@@ -8,12 +8,11 @@ use crate::joint::JointUnion;
 use crate::math_functions::{
     get_swing_angle, get_twist_angle, Quat, Vec3, QUAT_IDENTITY, VEC3_AXIS_Z,
 };
-use crate::records::{one_body, sides, Kind};
+use crate::records::{one_body, sides, Kind, KINDS};
 use crate::scene::{Scene, HALF_TURN_X, HALF_TURN_Y};
 use crate::solver_set::AWAKE_SET;
 use crate::stages::{case, Stage};
 
-const KINDS: [Kind; 3] = [Kind::Revolute, Kind::Spherical, Kind::Weld];
 const SWITCH: [bool; 2] = [false, true];
 
 /// Writes all of them. What a case does not set is drawn, the same for all seeds.
@@ -29,7 +28,7 @@ pub fn write(list: &mut List) -> Step {
 }
 
 /// A tame scene of two bodies: two different ones, and for solve both awake and dynamic.
-fn two_bodies(random: &mut Random, stage: Stage, kind: Kind) -> Scene {
+pub fn two_bodies(random: &mut Random, stage: Stage, kind: Kind) -> Scene {
     loop {
         let scene = Scene::tame(random, stage, kind);
         let moved = scene.bodies.iter().all(|body| body.set_index == AWAKE_SET)

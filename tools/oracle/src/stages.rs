@@ -10,7 +10,7 @@ use crate::records::{self, read_joint, write_joint, BodyRecord, Kind};
 use crate::scene::Scene;
 use crate::solver::StepContext;
 use crate::stage_edges;
-use crate::words::Words;
+use crate::words::{read_all, write_all, Words};
 
 /// What is done with a joint in a step, in this order.
 #[derive(Clone, Copy, PartialEq)]
@@ -45,7 +45,7 @@ pub fn prepare(kind: Kind, joint: &mut JointSim, context: &StepContext, bodies: 
     prepare(&records::world(joint, bodies), joint, context);
 }
 
-fn warm_start(kind: Kind, joint: &mut JointSim, states: &mut [BodyState]) {
+pub fn warm_start(kind: Kind, joint: &mut JointSim, states: &mut [BodyState]) {
     let warm_start = match kind {
         Revolute => warm_start_revolute_joint,
         Spherical => warm_start_spherical_joint,
@@ -54,7 +54,7 @@ fn warm_start(kind: Kind, joint: &mut JointSim, states: &mut [BodyState]) {
     warm_start(joint, states);
 }
 
-fn solve(
+pub fn solve(
     kind: Kind,
     joint: &mut JointSim,
     context: &StepContext,
@@ -70,29 +70,26 @@ fn solve(
 }
 
 /// The words that a stage takes of a scene.
-fn inputs(stage: Stage, scene: &Scene) -> Vec<u32> {
+pub fn inputs(stage: Stage, scene: &Scene) -> Vec<u32> {
     let mut words = Vec::new();
     write_joint(&scene.joint, &mut words);
     if stage != WarmStart {
         scene.context.write(&mut words);
     }
     if stage == Prepare {
-        scene.bodies.iter().for_each(|body| body.write(&mut words));
+        write_all(&scene.bodies, &mut words);
         return words;
     }
     if stage == Solve {
         scene.use_bias.write(&mut words);
     }
     words.push(scene.states.len() as u32);
-    scene
-        .states
-        .iter()
-        .for_each(|state| state.write(&mut words));
+    write_all(&scene.states, &mut words);
     words
 }
 
 /// Asks the Rust.
-fn answer(stage: Stage, kind: Kind, mut inputs: &[u32]) -> Vec<u32> {
+pub fn answer(stage: Stage, kind: Kind, mut inputs: &[u32]) -> Vec<u32> {
     let from = &mut inputs;
     let mut joint = read_joint(kind, from);
     let mut states = Vec::new();
@@ -116,13 +113,13 @@ fn answer(stage: Stage, kind: Kind, mut inputs: &[u32]) -> Vec<u32> {
     assert!(from.is_empty(), "too many words");
     let mut words = Vec::new();
     write_joint(&joint, &mut words);
-    states.iter().for_each(|state| state.write(&mut words));
+    write_all(&states, &mut words);
     words
 }
 
 fn read_states(from: &mut &[u32]) -> Vec<BodyState> {
     let count = u32::read(from);
-    (0..count).map(|_| BodyState::read(from)).collect()
+    read_all(count, from)
 }
 
 /// Writes the case of a stage in a scene.

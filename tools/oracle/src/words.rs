@@ -81,6 +81,16 @@ impl Words for bool {
     fn visit_floats(&mut self, _: &mut dyn FnMut(&mut f32)) {}
 }
 
+/// Takes `count` values off the front of `from`.
+pub fn read_all<T: Words>(count: u32, from: &mut &[u32]) -> Vec<T> {
+    (0..count).map(|_| T::read(from)).collect()
+}
+
+/// Appends the values to `to`.
+pub fn write_all(values: &[impl Words], to: &mut Vec<u32>) {
+    values.iter().for_each(|value| value.write(to));
+}
+
 /// Makes a struct the words of its fields, in the order given. Fields that are left out are read
 /// from the rest, if one is given, and not written.
 macro_rules! record {

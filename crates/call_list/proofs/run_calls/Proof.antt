@@ -1,10 +1,11 @@
 -- `run_calls` equals its definition: `bodies` and the joints of `next` are those after the calls before the byte `i`. Assumes nothing.
-use mathlib.Core.Path.{_≡_, refl, sym, ap, _∙_}
+use mathlib.Core.Path.{_≡_, refl, ap, _∙_}
+use mathlib.Core.Logic.{⊎-elim}
 use Prim.Native.Nat.{ℕ, _+_, _-_, _%_, _≤_, _<_}
 use native.Mathlib.Omega.{arith}
 use lib.ListN.{length}
 use borrow.Author.Needs.{needs}
-use Rattle.call_list.proofs.Elements.{bodies-long, joints-long, turn-is}
+use Rattle.call_list.proofs.Elements.{bodies-long, joints-long, worked-as, worked-none, turn-is}
 use Rattle.call_list.proofs.Lists.{accepted-early, Midst, midst-start, midst-more, midst-done, slot-low}
 use Rattle.call_list.proofs.run_calls.Statement.{statement}
 use Rattle.call_list.proofs.run_calls.Tie as tie
@@ -31,11 +32,22 @@ shared-slice-read-joint-place c = search needs
 joint-place-requires : tie.Need-joint-place-requires Inv-loop μ-loop
 joint-place-requires c κs = search needs
 
-mul-joint : tie.Need-mul-joint Inv-loop μ-loop
-mul-joint c = search needs
+add-stage : tie.Need-add-stage Inv-loop μ-loop
+add-stage c = search needs
 
-element-copy-out-joint : tie.Need-element-copy-out-joint Inv-loop μ-loop
-element-copy-out-joint c = search needs
+shared-slice-read-stage : tie.Need-shared-slice-read-stage Inv-loop μ-loop
+shared-slice-read-stage c =
+    let l = c .before .before .before .before in
+    let e = l .before .before .before .before in
+    let r = e .args in
+    let none = accepted-early (r .scene) (r .list .now) (e .pre) in
+    omega (arith, none .even, l .loop .inv .1, c .before .before .before .loop-test .taken)
+
+mul-named : tie.Need-mul-named Inv-loop μ-loop
+mul-named c = search needs
+
+element-copy-out-named : tie.Need-element-copy-out-named Inv-loop μ-loop
+element-copy-out-named c = search needs
 
 places-of-requires : tie.Need-places-of-requires Inv-loop μ-loop
 places-of-requires c κs = search needs
@@ -52,19 +64,56 @@ mul-b c = search needs
 array-copy-out-b : tie.Need-array-copy-out-b Inv-loop μ-loop
 array-copy-out-b c = search needs
 
-add-stage-joint : tie.Need-add-stage-joint Inv-loop μ-loop
-add-stage-joint c = search needs
+velocities-of-requires : tie.Need-velocities-of-requires Inv-loop μ-loop
+velocities-of-requires c κs = search needs
 
-shared-slice-read-stage-joint : tie.Need-shared-slice-read-stage-joint Inv-loop μ-loop
-shared-slice-read-stage-joint c =
-    let l = c .before .before .before .before .before .before .before .before in
-    let e = l .before .before .before .before in
-    let r = e .args in
-    let none = accepted-early (r .scene) (r .list .now) (e .pre) in
-    omega (arith, none .even, l .loop .inv .1, c .before .before .before .before .before .before .before .loop-test .taken)
+case-of-requires : tie.Need-case-of-requires Inv-loop μ-loop
+case-of-requires c κs = search needs
 
-stage-joint-requires : tie.Need-stage-joint-requires Inv-loop μ-loop
-stage-joint-requires c κs = search needs
+mul-joint : tie.Need-mul-joint Inv-loop μ-loop
+mul-joint c = omega (arith, c .before .before .before .before .before .before .before .before .joint-place .ensures .0)
+
+element-copy-out-joint : tie.Need-element-copy-out-joint Inv-loop μ-loop
+element-copy-out-joint c = omega (arith, c .before .before .before .before .before .before .before .before .joint-place .ensures .0)
+
+stage-as-revolute-requires : tie.Need-stage-as-revolute-requires Inv-loop μ-loop
+stage-as-revolute-requires c κs = search needs
+
+mul-t53 : tie.Need-mul-t53 Inv-loop μ-loop
+mul-t53 c = omega (arith, c .before .before .before .before .before .before .before .before .before .before .before .joint-place .ensures .0)
+
+element-set-from-next : tie.Need-element-set-from-next Inv-loop μ-loop
+element-set-from-next c = omega (arith, c .before .before .before .before .before .before .before .before .before .before .before .joint-place .ensures .0)
+
+mul-joint-2 : tie.Need-mul-joint-2 Inv-loop μ-loop
+mul-joint-2 c = omega (arith, c .before .before .before .before .before .before .before .before .joint-place .ensures .0)
+
+element-copy-out-joint-2 : tie.Need-element-copy-out-joint-2 Inv-loop μ-loop
+element-copy-out-joint-2 c = omega (arith, c .before .before .before .before .before .before .before .before .joint-place .ensures .0)
+
+stage-as-spherical-requires : tie.Need-stage-as-spherical-requires Inv-loop μ-loop
+stage-as-spherical-requires c κs = search needs
+
+mul-t59 : tie.Need-mul-t59 Inv-loop μ-loop
+mul-t59 c = omega (arith, c .before .before .before .before .before .before .before .before .before .before .before .joint-place .ensures .0)
+
+element-set-from-next-2 : tie.Need-element-set-from-next-2 Inv-loop μ-loop
+element-set-from-next-2 c = omega (arith, c .before .before .before .before .before .before .before .before .before .before .before .joint-place .ensures .0)
+
+mul-joint-3 : tie.Need-mul-joint-3 Inv-loop μ-loop
+mul-joint-3 c = omega (arith, c .before .before .before .before .before .before .before .before .joint-place .ensures .0)
+
+element-copy-out-joint-3 : tie.Need-element-copy-out-joint-3 Inv-loop μ-loop
+element-copy-out-joint-3 c = omega (arith, c .before .before .before .before .before .before .before .before .joint-place .ensures .0)
+
+stage-as-weld-requires : tie.Need-stage-as-weld-requires Inv-loop μ-loop
+stage-as-weld-requires c κs = search needs
+
+mul-t65 : tie.Need-mul-t65 Inv-loop μ-loop
+mul-t65 c = omega (arith, c .before .before .before .before .before .before .before .before .before .before .before .joint-place .ensures .0)
+
+element-set-from-next-3 : tie.Need-element-set-from-next-3 Inv-loop μ-loop
+element-set-from-next-3 c = omega (arith, c .before .before .before .before .before .before .before .before .before .before .before .joint-place .ensures .0)
 
 store-velocities-requires : tie.Need-store-velocities-requires Inv-loop μ-loop
 store-velocities-requires c κs = search needs
@@ -90,12 +139,6 @@ mul-bodies-2 c = omega (arith, c .before .before .before .before .before .before
 array-set-from-bodies-2 : tie.Need-array-set-from-bodies-2 Inv-loop μ-loop
 array-set-from-bodies-2 c = omega (arith, c .before .before .before .before .before .before .before .before .places-of .ensures .0, c .before .before .before .before .before .before .before .before .places-of .ensures .1)
 
-mul-t26 : tie.Need-mul-t26 Inv-loop μ-loop
-mul-t26 c = omega (arith, c .before .before .before .before .before .before .before .before .before .before .before .joint-place .ensures .0)
-
-element-set-from-next : tie.Need-element-set-from-next Inv-loop μ-loop
-element-set-from-next c = omega (arith, c .before .before .before .before .before .before .before .before .before .before .before .joint-place .ensures .0)
-
 add-i : tie.Need-add-i Inv-loop μ-loop
 add-i c =
     let l = c .before .before .before .before .before .before .before .before .before .before .before .before .before .before in
@@ -116,15 +159,28 @@ loop-again c =
     let r = e .args in
     let none = accepted-early (r .scene) (r .list .now) (e .pre) in
     let w = l .loop .inv .2 in
+    let t = l .loop .next in
     let at = c .before .before .before .before .before .before .before .before .before .before .before .joint-place in
-    let places = c .before .before .before .before .before .before .before .before .before .places-of in
-    let stage = c .before .before .before .before .before .stage-joint in
-    let a = c .before .before .before .store-velocities in
-    let b = c .before .store-velocities2 in
+    let places = c .before .before .before .before .before .before .before .before .places-of in
+    let seen = c .before .before .before .before .before .velocities-of in
+    let case = c .before .before .before .before .case-of in
+    let m = c .before .before .before .match in
+    let a = c .before .before .store-velocities in
+    let b = c .store-velocities2 in
+    let left =
+    ⊎-elim
+    (λ z. worked-as t (at .result) _ _ _ _ _ _ (case .result) (m .next) (m .v) 0 (z .3 .result) (case .ensures) (z .0 .keys1) (z .3 .ensures) (z .5) (z .6))
+    (⊎-elim
+    (λ z. worked-as t (at .result) _ _ _ _ _ _ (case .result) (m .next) (m .v) 1 (z .3 .result) (case .ensures) (z .0 .keys2) (z .3 .ensures) (z .5) (z .6))
+    (⊎-elim
+    (λ z. worked-as t (at .result) _ _ _ _ _ _ (case .result) (m .next) (m .v) 2 (z .3 .result) (case .ensures) (z .0 .keys3) (z .3 .ensures) (z .5) (z .6))
+    (λ z. worked-none t (at .result) _ _ _ _ _ _ (case .result) (m .next) (m .v) (case .ensures) (z .0 .rest .0 .0 .1) (z .0 .rest .0 .1) (z .0 .rest .1) (z .1) (z .2 ∙ seen .ensures))))
+    (m .came)
+    in
     let room : l .loop .i + 1 < length (r .list .now) = omega (arith, none .even, l .loop .inv .1, c .before .before .before .before .before .before .before .before .before .before .before .before .before .loop-test .taken) in
-    let low = slot-low (r .scene) (r .list .now) (l .loop .next) (l .loop .bodies) (l .loop .i) w room (none .few-joints) in
+    let low = slot-low (r .scene) (r .list .now) t (l .loop .bodies) (l .loop .i) w room (none .few-joints) in
     let turn =
-    turn-is (l .loop .next) (w .us) (l .loop .bodies) _ _ (at .result) (places .result .a) (places .result .b) _ _ (a .result) (b .result) (stage .result) _
+    turn-is t (w .us) (l .loop .bodies) _ _ (at .result) (places .result .a) (places .result .b) _ _ (a .result) (b .result) _ _ (m .v)
     (w .long-bodies)
     (w .long-joints)
     (w .holds)
@@ -133,11 +189,13 @@ loop-again c =
     (at .ensures .1)
     (ap (λ x. x .a) (places .ensures .2))
     (ap (λ x. x .b) (places .ensures .2))
-    (stage .ensures)
+    refl
+    (left .moved)
     (a .ensures)
     (b .ensures)
     in
-    (omega (arith, room), omega (arith, l .loop .inv .1), midst-more (r .scene) (r .list .now) (l .loop .next) (l .loop .bodies) (l .loop .i) w (turn .0) _ (at .result) _ room (turn .1) (turn .2) (turn .3))
+    let more = midst-more (r .scene) (r .list .now) t (l .loop .bodies) (l .loop .i) w (turn .0) _ (at .result) _ (m .next) room (turn .1) (turn .2) (turn .3) (left .stored) in
+    (omega (arith, room), omega (arith, l .loop .inv .1), more)
 
 without-identity-requires : tie.Need-without-identity-requires Inv-loop μ-loop
 without-identity-requires c κs = search needs
@@ -149,4 +207,11 @@ returns c =
     midst-done (r .scene) (r .list .now) (l .loop .next) (l .loop .bodies) (l .loop .i) (l .loop .inv .2) (c .without-identity .result) (omega (arith, c .before .loop-test .left)) (c .without-identity .ensures)
 
 pub run-calls-spec : {M : Type 1} → statement M
-run-calls-spec = tie.close (tie.spec Inv-loop μ-loop with-identity-requires loop-holds shared-slice-read-joint-place joint-place-requires mul-joint element-copy-out-joint places-of-requires mul-a array-copy-out-a mul-b array-copy-out-b add-stage-joint shared-slice-read-stage-joint stage-joint-requires store-velocities-requires mul-bodies array-set-from-bodies mul-again array-copy-out-again store-velocities-requires-2 mul-bodies-2 array-set-from-bodies-2 mul-t26 element-set-from-next add-i loop-less loop-again without-identity-requires returns)
+run-calls-spec =
+    tie.close
+    (tie.spec Inv-loop μ-loop with-identity-requires loop-holds shared-slice-read-joint-place joint-place-requires add-stage shared-slice-read-stage mul-named element-copy-out-named places-of-requires mul-a array-copy-out-a mul-b array-copy-out-b
+    velocities-of-requires case-of-requires
+    mul-joint element-copy-out-joint stage-as-revolute-requires mul-t53 element-set-from-next
+    mul-joint-2 element-copy-out-joint-2 stage-as-spherical-requires mul-t59 element-set-from-next-2
+    mul-joint-3 element-copy-out-joint-3 stage-as-weld-requires mul-t65 element-set-from-next-3
+    store-velocities-requires mul-bodies array-set-from-bodies mul-again array-copy-out-again store-velocities-requires-2 mul-bodies-2 array-set-from-bodies-2 add-i loop-less loop-again without-identity-requires returns)

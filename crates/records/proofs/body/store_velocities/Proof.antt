@@ -4,9 +4,7 @@ use Rattle.records.proofs.body.store_velocities.Tie as tie
 
 returns : tie.Need-returns
 unfolding storeVelocities
-returns c =
-    let then = c .before .before .before .before .before .before in
-    rw (← (then .before .is-dynamic .ensures), then .if1 .taken)
+returns c = rw (← (c .before .is-dynamic .ensures), c .if1 .taken)
 
 returns-2 : tie.Need-returns-2
 unfolding storeVelocities

@@ -1,7 +1,15 @@
+use Rattle.constraint.specs.Angular.{twistLimitRows}
 use Rattle.revolute.specs.Revolute.{solveLimits}
 use Rattle.revolute.proofs.stages.solve_limits.Statement.{statement}
 use Rattle.revolute.proofs.stages.solve_limits.Tie as tie
 
+returns : tie.Need-returns
+unfolding solveLimits twistLimitRows
+returns c = rw (← (c .before .is-worked .ensures), c .if1 .taken)
+
+returns-2 : tie.Need-returns-2
+unfolding solveLimits twistLimitRows
+returns-2 c = rw (← (c .before .before .before .before .before .before .before .before .before .before .before .is-worked .ensures), ← (c .before .before .before .before .before .before .before .before .get-twist-angle .ensures), ← (c .before .before .before .before .before .before .limit-bias .ensures), ← (c .before .before .before .before .before .lower-limit-row .ensures), ← (c .before .before .limit-bias2 .ensures), ← (c .before .upper-limit-row .ensures), c .before .before .before .before .before .before .before .before .before .before .if1 .left)
+
 pub solve-limits-spec : {M : Type 1} → statement M
-unfolding solveLimits
-solve-limits-spec = tie.close (tie.spec (λ c κs. tt) (λ c κs. tt) (λ c. rw (← (c .before .is-worked .ensures), ← (c .twist-limit-rows .ensures))))
+solve-limits-spec = tie.close (tie.spec (λ c κs. tt) returns (λ c κs. tt) (λ c κs. tt) (λ c κs. tt) (λ c κs. tt) (λ c κs. tt) returns-2)

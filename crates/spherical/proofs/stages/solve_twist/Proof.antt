@@ -1,6 +1,15 @@
--- `stages::solve_twist` equals the row at the joint's fields. Assumes nothing.
+-- `stages::solve_twist` equals the rows at the joint's fields. Assumes nothing.
+use Rattle.constraint.specs.Angular.{twistLimitRows}
 use Rattle.spherical.proofs.stages.solve_twist.Statement.{statement}
 use Rattle.spherical.proofs.stages.solve_twist.Tie as tie
 
+returns : tie.Need-returns
+unfolding twistLimitRows
+returns c = rw (← (c .before .is-worked .ensures), c .if1 .taken)
+
+returns-2 : tie.Need-returns-2
+unfolding twistLimitRows
+returns-2 c = rw (← (c .before .before .before .before .before .before .before .before .before .before .before .before .is-worked .ensures), ← (c .before .before .before .before .before .before .before .before .get-twist-angle .ensures), ← (c .before .before .before .before .before .before .limit-bias .ensures), ← (c .before .before .before .before .before .lower-limit-row .ensures), ← (c .before .before .limit-bias2 .ensures), ← (c .before .upper-limit-row .ensures), c .before .before .before .before .before .before .before .before .before .before .before .if1 .left)
+
 pub solve-twist-spec : {M : Type 1} → statement M
-solve-twist-spec = tie.close (tie.spec (λ c κs. tt) (λ c κs. tt) (λ c. rw (← (c .before .is-worked .ensures), ← (c .twist-limit-rows .ensures))))
+solve-twist-spec = tie.close (tie.spec (λ c κs. tt) returns (λ c κs. tt) (λ c κs. tt) (λ c κs. tt) (λ c κs. tt) (λ c κs. tt) returns-2)

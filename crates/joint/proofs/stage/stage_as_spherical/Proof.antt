@@ -1,0 +1,18 @@
+-- `stage::stage_as_spherical` equals its definition. Assumes nothing.
+use mathlib.Core.Path.{refl}
+use borrow.Author.Needs.{needs}
+use Rattle.joint.specs.Stage.{stageJoint, stageAs}
+use Rattle.joint.proofs.Signs.{not-of}
+use Rattle.joint.proofs.stage.stage_as_spherical.Statement.{statement}
+use Rattle.joint.proofs.stage.stage_as_spherical.Tie as tie
+
+returns : tie.Need-returns
+unfolding stageAs
+returns c = rw (not-of 1 0 2 3 (c .before .before .args .union-) refl refl refl (c .before .match .keys2), ← (c .velocities-of .ensures))
+
+returns-2 : tie.Need-returns-2
+unfolding stageAs stageJoint
+returns-2 c = rw (c .before .before .union- .given .1, ← (c .stage-spherical .ensures))
+
+pub stage-as-spherical-spec : {M : Type 1} → statement M
+stage-as-spherical-spec = tie.close (tie.spec (λ c. search needs) (λ c κs. tt) returns (λ c κs. tt) returns-2)
