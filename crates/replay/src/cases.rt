@@ -1,7 +1,9 @@
 // Running the cases of a block of bytes.
 ghost use Prim.Native.Nat.{_+_, _≤_};
 ghost use lib.ListN.{length};
+use crate::direct_calls;
 use crate::internal;
+use crate::lists;
 use crate::matrix;
 use crate::quat;
 use crate::scalar;
@@ -9,8 +11,8 @@ use crate::soft;
 use crate::stages;
 use crate::transform;
 use crate::vector;
-use crate::words::plus;
-use crate::words::word;
+use case_words::words::plus;
+use case_words::words::word;
 
 // How many bytes a case can have with its header: as many as the buffer holds.
 const ROOM: usize = 65536;
@@ -35,6 +37,8 @@ fn agrees(f: u32, p: &[u8]) -> bool {
         6 => transform::agrees(f, p),
         7 => soft::agrees(f, p),
         8 => stages::agrees(f, p),
+        9 => direct_calls::agrees(f, p),
+        10 => lists::agrees(f, p),
         _ => false,
     }
 }

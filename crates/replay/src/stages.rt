@@ -1,29 +1,31 @@
 // The cases of the stages: prepare, warm start and solve of the three kinds of joint.
 //
-// The joint is compared with the answer, and with the words that it was read from too: those of a
-// switch that is neither 0 nor 1, and of a type that there is not, differ from what is read.
-use crate::compare::has_words;
-use crate::compare::is_switch;
-use crate::joint_words::Indices;
-use crate::joint_words::indices_of;
-use crate::joint_words::joint_at;
-use crate::joint_words::prepare;
-use crate::joint_words::same_joint;
-use crate::joint_words::solve;
-use crate::joint_words::warm_start;
-use crate::joint_words::words_of;
-use crate::record_words::BODY_WORDS;
-use crate::record_words::CONTEXT_WORDS;
-use crate::record_words::STATE_WORDS;
-use crate::record_words::body;
-use crate::record_words::context;
-use crate::record_words::is_context;
-use crate::record_words::same_state;
-use crate::record_words::state;
-use crate::words::int;
-use crate::words::plus;
-use crate::words::switch;
+// What is read of the inputs is compared with their words too: those of a switch that is neither 0
+// nor 1, and of a type that there is not, differ from what is read.
+use crate::stage_calls::prepare;
+use crate::stage_calls::solve;
+use crate::stage_calls::warm_start;
+use case_words::compare::has_words;
+use case_words::compare::is_switch;
+use case_words::joint_words::is_joint;
+use case_words::joint_words::joint;
+use case_words::joint_words::same_joint;
+use case_words::joint_words::words_of;
+use case_words::record_words::BODY_WORDS;
+use case_words::record_words::CONTEXT_WORDS;
+use case_words::record_words::STATE_WORDS;
+use case_words::record_words::body;
+use case_words::record_words::context;
+use case_words::record_words::same_context;
+use case_words::record_words::same_state;
+use case_words::record_words::state;
+use case_words::words::behind;
+use case_words::words::int;
+use case_words::words::plus;
+use case_words::words::switch;
 use constraint::velocity::Velocities;
+use joint::index::Indices;
+use joint::index::indices_of;
 use joint::store::StatePair;
 use joint::store::store_pair;
 use records::NULL_INDEX;
@@ -69,11 +71,18 @@ fn state_of(p: &[u8], i: usize, index: i32) -> BodyState {
     if index == NULL_INDEX {
         return IDENTITY_BODY_STATE;
     }
-    state(p, behind_states(i, index))
+    state(behind(p, behind_states(i, index)))
 }
 
 fn is_index(index: i32, count: i32) -> bool {
     index >= NULL_INDEX && index < count
+}
+
+// The indices of the joint that the inputs begin with.
+fn indices_at(kind: u32, p: &[u8]) -> Indices {
+    let joint = joint(kind, p);
+    let union_ = joint.union_;
+    indices_of(union_)
 }
 
 // The states of a joint's bodies.
@@ -93,14 +102,14 @@ fn stored(at: Indices, pair: StatePair, v: Velocities) -> StatePair {
 // Whether the answer has state k as the stage left it: as it was in the inputs, unless it is that of
 // one of the bodies.
 fn same_state_of(p: &[u8], parts: Parts, k: i32, at: Indices, pair: StatePair) -> bool {
-    let i = behind_states(parts.states_after, k);
+    let after = behind(p, behind_states(parts.states_after, k));
     if at.b == k {
-        return same_state(p, i, pair.state_b);
+        return same_state(after, pair.state_b);
     }
     if at.a == k {
-        return same_state(p, i, pair.state_a);
+        return same_state(after, pair.state_a);
     }
-    same_state(p, i, state(p, behind_states(parts.states, k)))
+    same_state(after, state(behind(p, behind_states(parts.states, k))))
 }
 
 fn same_states(p: &[u8], parts: Parts, at: Indices, pair: StatePair) -> bool {
@@ -124,65 +133,58 @@ fn is_whole(p: &[u8], parts: Parts, at: Indices) -> bool {
 // Prepare takes the joint, the context and the two bodies.
 fn agrees_prepare(kind: u32, p: &[u8]) -> bool {
     let words = words_of(kind);
-    let bodies = plus(words, CONTEXT_WORDS);
-    let answer = plus(bodies, 2 * BODY_WORDS);
-    let before = joint_at(kind, p, 0);
-    let r = prepare(
-        kind,
-        before,
-        context(p, words),
-        body(p, bodies),
-        body(p, plus(bodies, BODY_WORDS)),
-    );
+    let bodies = words + CONTEXT_WORDS;
+    let answer = bodies + 2 * BODY_WORDS;
+    let step = context(behind(p, words));
+    let body_a = body(behind(p, bodies));
+    let body_b = body(behind(p, bodies + BODY_WORDS));
+    let r = prepare(kind, joint(kind, p), step, body_a, body_b);
     has_words(p, plus(answer, words))
-        & same_joint(kind, p, 0, before)
-        & is_context(p, words)
+        & is_joint(kind, p)
+        & same_context(behind(p, words), step)
         & (r.number == 0)
         & (r.place == 0)
-        & same_joint(kind, p, answer, r.joint)
+        & same_joint(kind, behind(p, answer), r.joint)
 }
 
 // Warm start takes the joint and the states.
 fn agrees_warm_start(kind: u32, p: &[u8]) -> bool {
     let parts = parts_of(kind, p, words_of(kind));
-    let before = joint_at(kind, p, 0);
-    let union_ = before.union_;
-    let at = indices_of(union_);
+    let at = indices_at(kind, p);
     let pair = states_of(p, parts, at);
-    let r = warm_start(kind, before, pair.state_a, pair.state_b);
+    let r = warm_start(kind, joint(kind, p), pair.state_a, pair.state_b);
     is_whole(p, parts, at)
-        & same_joint(kind, p, 0, before)
+        & is_joint(kind, p)
         & (r.number == 0)
         & (r.place == 0)
-        & same_joint(kind, p, parts.joint_after, r.joint)
+        & same_joint(kind, behind(p, parts.joint_after), r.joint)
         & same_states(p, parts, at, stored(at, pair, r.velocities))
 }
 
 // Solve takes the joint, the context, a switch and the states.
 fn agrees_solve(kind: u32, p: &[u8]) -> bool {
     let words = words_of(kind);
-    let bias = plus(words, CONTEXT_WORDS);
-    let parts = parts_of(kind, p, plus(bias, 1));
-    let before = joint_at(kind, p, 0);
-    let union_ = before.union_;
-    let at = indices_of(union_);
+    let bias = words + CONTEXT_WORDS;
+    let parts = parts_of(kind, p, bias + 1);
+    let at = indices_at(kind, p);
     let pair = states_of(p, parts, at);
-    let step = context(p, words);
+    let step = context(behind(p, words));
+    let use_bias = switch(p, bias);
     let r = solve(
         kind,
-        before,
+        joint(kind, p),
         step,
         pair.state_a,
         pair.state_b,
-        switch(p, bias),
+        use_bias,
     );
     is_whole(p, parts, at)
-        & same_joint(kind, p, 0, before)
-        & is_context(p, words)
+        & is_joint(kind, p)
+        & same_context(behind(p, words), step)
         & is_switch(p, bias)
         & (r.number == 0)
         & (r.place == 0)
-        & same_joint(kind, p, parts.joint_after, r.joint)
+        & same_joint(kind, behind(p, parts.joint_after), r.joint)
         & same_states(p, parts, at, stored(at, pair, r.velocities))
 }
 

@@ -1,6 +1,7 @@
 -- What the functions' proofs cite, on plain values. Assumes nothing.
 mod Nans
 mod Unpacking
+mod Guesses
 mod Scaled
 mod Patterns
 mod RootBits

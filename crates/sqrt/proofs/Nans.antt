@@ -1,17 +1,11 @@
 -- What is no NaN: a float that equals itself, and a pattern below the infinity's. Assumes nothing.
 use mathlib.Core.Path.{_≡_, sym, subst}
-use mathlib.Core.Bool.{Bool, true, false, not, false≢true}
+use mathlib.Core.Bool.{Bool, false, not, false≢true}
 use Prim.Native.Nat.{ℕ, _*_, _%_, _<_}
 use native.Mathlib.Nat.{lt-trans, lt-irrefl, mod-eq-of-lt}
 use lib.Dec.{T, ltb, ltb→lt, not-T, lit<}
 use lib.Ieee.{Float, nan, inf, fin, Format, binary32, binary64, ones, hid, top, eq, ne, isNan, nanBits}
 use lib.Ieee.Bits.{nanBits-above}
-
-pub equal-no-nan : (x : Float) → eq x x ≡ true → T (not (isNan x))
-unfolding eq isNan
-equal-no-nan nan h = absurd (false≢true h)
-equal-no-nan (inf s) h = tt
-equal-no-nan (fin s m e) h = tt
 
 pub same-no-nan : (x : Float) → ne x x ≡ false → T (not (isNan x))
 unfolding ne eq isNan

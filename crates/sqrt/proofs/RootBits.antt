@@ -1,7 +1,6 @@
--- `root_bits` on plain numbers: from the nearest root of the scaled significand to the pattern of the root. Assumes nothing.
+-- From the nearest root of the scaled significand to the pattern of the root. Assumes nothing.
 use mathlib.Core.Path.{_≡_, sym, ap, _∙_}
-use mathlib.Core.Logic.{_⊎_, inl, inr}
-use Prim.Native.Nat.{ℕ, _+_, _-_, _*_, _/_, _%_, _^_, _≤_, _<_}
+use Prim.Native.Nat.{ℕ, zero, suc, _+_, _-_, _*_, _/_, _%_, _^_, _≤_, _<_}
 use native.Mathlib.Nat.{lt-of-not-le, mul-assoc, mul-right-comm, mul-le-mul, mul-le-mul-right, eq-of-mul-eq-mul-right}
 use native.Mathlib.Omega.{arith}
 use lib.Pow.{pow-add, pow-pos}
@@ -23,7 +22,7 @@ near-least n r lo h = lt-of-not-le (λ (g : r ≤ 2 ^ 23 - 1). contra g)
         let k = h .above in
         omega arith
 
-pub near-most : (n r : ℕ) → n ≤ 2 ^ 48 - 2 ^ 24 → NearestRoot n r → r < 2 ^ 24
+near-most : (n r : ℕ) → n ≤ 2 ^ 48 - 2 ^ 24 → NearestRoot n r → r < 2 ^ 24
 near-most n r hi h = lt-of-not-le (λ (g : 2 ^ 24 ≤ r). contra g)
   where
     contra : 2 ^ 24 ≤ r → ⊥
@@ -57,18 +56,18 @@ root-bits-at b m e n r w k pos fin sp is sum lo hi K near =
       omega arith,
     )
 
--- n is m with 23 places or 24, by e
-abbrev pub Even : (m e n : ℕ) → Type 0
-Even m e n = (e % 2 ≡ 0) × (n ≡ m * 2 ^ 23)
+-- 23 places, and one more where e is odd: a number of 47 or 48 digits
+range : (m p : ℕ) → p < 2 → 2 ^ 23 ≤ m → m < 2 ^ 24 → (2 ^ 46 ≤ m * 2 ^ (23 + p)) × (m * 2 ^ (23 + p) ≤ 2 ^ 48 - 2 ^ 24)
+range m zero h lo hi = (omega arith, omega arith)
+range m (suc zero) h lo hi = (omega arith, omega arith)
+range m (suc (suc p)) h lo hi = omega arith
 
-abbrev pub Odd : (m e n : ℕ) → Type 0
-Odd m e n = (e % 2 ≡ 1) × (n ≡ m * 2 ^ 24)
+pub scaled-range : (m e n : ℕ) → 2 ^ 23 ≤ m → m < 2 ^ 24 → n ≡ m * 2 ^ (23 + e % 2) → (2 ^ 46 ≤ n) × (n ≤ 2 ^ 48 - 2 ^ 24)
+scaled-range m e n lo hi is = let x = range m (e % 2) (omega arith) lo hi in (omega arith, omega arith)
 
-pub root-bits-is : (b m e n r : ℕ) → 0 < b → b < 0x7f80_0000 → Unpacks b m e → Even m e n ⊎ Odd m e n → NearestRoot n r
+pub root-bits-is : (b m e n r : ℕ) → 0 < b → b < 0x7f80_0000 → Unpacks b m e → n ≡ m * 2 ^ (23 + e % 2) → NearestRoot n r
     → (ofBits binary32 ((e + 102) / 2 * 2 ^ 23 + r) ≡ sqrt (ofBits binary32 b)) × ((e + 102) / 2 * 2 ^ 23 + r < 0x7f80_0000)
-root-bits-is b m e n r pos fin sp (inl h) near =
-    let a = sp .least in let c = sp .most in let d = sp .exponent in let i = h .0 in let j = h .1 in
-    root-bits-at b m e n r 23 ((e + 102) / 2) pos fin sp (h .1) (omega arith) (omega arith) (omega arith) (omega arith) near
-root-bits-is b m e n r pos fin sp (inr h) near =
-    let a = sp .least in let c = sp .most in let d = sp .exponent in let i = h .0 in let j = h .1 in
-    root-bits-at b m e n r 24 ((e + 102) / 2) pos fin sp (h .1) (omega arith) (omega arith) (omega arith) (omega arith) near
+root-bits-is b m e n r pos fin sp is near =
+    let x = scaled-range m e n (sp .least) (sp .most) is in
+    let d = sp .exponent in
+    root-bits-at b m e n r (23 + e % 2) ((e + 102) / 2) pos fin sp is (omega arith) (x .0) (x .1) (omega arith) near

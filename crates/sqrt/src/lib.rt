@@ -1,11 +1,22 @@
 // The square root of an `f32`, rounded to the nearest `f32`, as IEEE 754 has it.
 ghost use mathlib.Core.Path.{_≡_};
-ghost use Prim.Native.Nat.{_+_, _*_, _^_, _≤_, _<_};
+ghost use Prim.Native.Nat.{_+_, _*_, _%_, _^_, _≤_, _<_};
 ghost use lib.Ieee.{binary32, ofBits};
 ghost use Rattle.sqrt.specs.Sqrt as D;
 ghost use Rattle.sqrt.specs.Steps.{Unpacks, NearestRoot};
+use crate::cubics::Cubic;
+use crate::cubics::INTERVAL;
+use crate::cubics::INTERVALS;
+use crate::cubics::UNIT;
+use crate::cubics::cubic_at;
+use std::num::wrapping_add_u64;
+use std::num::wrapping_sub_u64;
 
-// The patterns of two `f32`s.
+mod cubics;
+
+// The patterns of three `f32`s.
+const LEAST_NORMAL: u32 = 0x0080_0000;
+
 const INFINITY: u32 = 0x7f80_0000;
 
 const MINUS_ZERO: u32 = 0x8000_0000;
@@ -14,26 +25,13 @@ const MINUS_ZERO: u32 = 0x8000_0000;
 const HIDDEN_BIT: u64 = 1 << 23;
 
 // A significand is scaled by one of these, so that the exponent that is left is even and the root
-// has 24 digits. Each has beside it the root of its product with 2 ^ 23.
+// has 24 digits.
 const EVEN_SCALE: u64 = 1 << 23;
-
-const EVEN_ROOT: f64 = 8388608.0;
 
 const ODD_SCALE: u64 = 1 << 24;
 
-const ODD_ROOT: f64 = 11863283.203031445;
-
-// What an `f32`'s last digit weighs in the pattern of an `f64`. The hidden bit then adds one to the
-// exponent, so it is 0.5 that a significand is added to, to make a number from 1 to 2.
-const DIGIT_WEIGHT: u64 = 1 << 29;
-
-const HALF: u64 = 0x3fe0_0000_0000_0000;
-
-// 2 ^ 52: an `f64` from here up to 2 ^ 53 is a whole number, whose digits end its pattern.
-const WHOLE: f64 = 4503599627370496.0;
-
-// Guesses at a root are below this.
-const GUESS_BOUND: u64 = 1 << 25;
+// Above every such root.
+const ROOT_BOUND: u64 = 1 << 24;
 
 // A number as `significand * 2 ^ (exponent - 173)`.
 struct Unpacked {
@@ -41,21 +39,13 @@ struct Unpacked {
     exponent: u64,
 }
 
-// The significand and the exponent of a positive finite number, from its pattern. A subnormal
-// number's digits are shifted up until they are 24, so that it needs no case of its own later.
-fn unpack(b: u64) -> Unpacked
-    requires { ⌜ (0 < b) × (b < 0x7f80_0000) ⌝ }
+// The significand and the exponent of a subnormal number, from its pattern. The digits are shifted
+// up until they are 24, as a normal number's are.
+fn unpack_subnormal(b: u64) -> Unpacked
+    requires { ⌜ (0 < b) × (b < 2 ^ 23) ⌝ }
     ensures { λ r. ⌜ Unpacks b (r .significand) (r .exponent) ⌝ }
 {
-    let digits = b % HIDDEN_BIT;
-    let field = b / HIDDEN_BIT;
-    if field != 0 {
-        return Unpacked {
-            significand: HIDDEN_BIT + digits,
-            exponent: field + 23,
-        };
-    }
-    let mut significand = digits;
+    let mut significand = b;
     let mut exponent = 24u64;
     while significand < HIDDEN_BIT {
         significand = significand * 2;
@@ -67,33 +57,39 @@ fn unpack(b: u64) -> Unpacked
     }
 }
 
-// A guess at c * √v, where v is m / 2 ^ 23, from 1 to 2. A polynomial of degree 9 is within
-// 5 * 10 ^ -10 of √v; c is multiplied in early, so that nothing waits for it. Only the range is
-// promised: a bad guess would cost time and nothing else.
-fn estimate(m: u64, c: f64) -> u64
-    requires { ⌜ m < 2 ^ 24 ⌝ }
-    ensures { λ r. ⌜ r < 2 ^ 25 ⌝ }
+// A guess at the digits of a normal number's root, from its pattern, by a polynomial in d, which
+// counts from the start of the interval. Only the range is promised: a bad guess would cost time
+// and nothing else. The sums wrap, so that nothing is asked of the coefficients. The cube is added
+// last, since it is ready last.
+fn estimate(b: u64) -> u64
+    ensures { λ r. ⌜ r < 2 ^ 32 ⌝ }
 {
-    let v = f64::from_bits(m * DIGIT_WEIGHT + HALF);
-    let v2 = v * v;
-    let v4 = v2 * v2;
-    let low = (0.2201098195331061 + 1.4041793282728252 * v)
-        + (1.2906504775832583 * v - 1.3181950934589661) * v2;
-    let mid = (0.5156238203097167 * v - 0.9606552534878946)
-        + (0.04762529493685045 * v - 0.19281545292842722) * v2;
-    let high = 0.000460419560306563 * v - 0.006983359896150185;
-    let root = low * c + (mid + high * v4) * (v4 * c);
-    let t = root + WHOLE;
-    if t == t {
-        return f64::to_bits(t) % GUESS_BOUND;
-    }
-    0
+    let Cubic(c3, c2, c1, c0) = cubic_at(b / INTERVAL % INTERVALS);
+    let d = b % INTERVAL;
+    let d2 = d * d / INTERVAL;
+    let d3 = d2 * d / INTERVAL;
+    let linear = wrapping_add_u64(c0, (c1 as u64) * d);
+    let quadratic = wrapping_sub_u64(linear, (c2 as u64) * d2);
+    wrapping_add_u64(quadratic, (c3 as u64) * d3) / UNIT
 }
 
-// The guess, or the whole number nearest to the root of n where the guess is lower than that.
+// A guess that is not above the nearest root: the one given, or what Heron's steps make of it.
+fn lower_guess(n: u64, guess: u64) -> u64
+    requires { ⌜ (0 < n) × (n < 2 ^ 48) × (guess < 2 ^ 32) ⌝ }
+    ensures { λ r. ⌜ (r < 2 ^ 32) × (r * r < n + r) ⌝ }
+{
+    let mut r = guess;
+    while n + r <= r * r {
+        r = (r + n / r) / 2;
+    }
+    r
+}
+
+// The whole number nearest to the root of n, from a guess that is not higher. No root is halfway
+// between two.
 fn raise_guess(n: u64, guess: u64) -> u64
-    requires { ⌜ (n < 2 ^ 48) × (guess < 2 ^ 25) ⌝ }
-    ensures { λ r. ⌜ (r < 2 ^ 25) × (n ≤ r * r + r) ⌝ }
+    requires { ⌜ (n < 2 ^ 48) × (guess < 2 ^ 32) × (guess * guess < n + guess) ⌝ }
+    ensures { λ r. ⌜ NearestRoot n r ⌝ }
 {
     let mut r = guess;
     while r * r + r < n {
@@ -102,35 +98,51 @@ fn raise_guess(n: u64, guess: u64) -> u64
     r
 }
 
-// The whole number nearest to the root of n, from a guess that is not lower. No root is halfway
-// between two.
-fn lower_guess(n: u64, guess: u64) -> u64
-    requires { ⌜ (0 < n) × (n < 2 ^ 48) × (guess < 2 ^ 25) × (n ≤ guess * guess + guess) ⌝ }
+// The whole number nearest to the root of n, from any guess. Nearly every guess is right, and the
+// result is then the guess itself, which waits for no loop.
+fn nearest_root(n: u64, guess: u64) -> u64
+    requires { ⌜ (0 < n) × (n < 2 ^ 48) × (guess < 2 ^ 32) ⌝ }
     ensures { λ r. ⌜ NearestRoot n r ⌝ }
 {
-    let mut r = guess;
-    while n + r <= r * r {
-        r -= 1;
+    if n <= guess * guess + guess {
+        if guess * guess < n + guess {
+            return guess;
+        }
     }
-    r
+    raise_guess(n, lower_guess(n, guess))
 }
 
-// The pattern of the root of a positive finite number, from its pattern. The root is
+fn scaled_significand(m: u64, e: u64) -> u64
+    requires { ⌜ m < 2 ^ 24 ⌝ }
+    ensures { λ r. ⌜ r ≡ m * 2 ^ (23 + e % 2) ⌝ }
+{
+    if e % 2 == 0 {
+        return m * EVEN_SCALE;
+    }
+    m * ODD_SCALE
+}
+
+// The pattern of the root of a positive normal number, from its pattern. The root is
 // r * 2 ^ (k - 149), where k is (e + 102) / 2, and r has the hidden bit.
-fn root_bits(b: u32) -> u32
-    requires { ⌜ (0 < b) × (b < 0x7f80_0000) ⌝ }
+fn normal_root(b: u32) -> u32
+    requires { ⌜ (2 ^ 23 ≤ b) × (b < 0x7f80_0000) ⌝ }
     ensures { λ r. ⌜ (ofBits binary32 r ≡ D.sqrt (ofBits binary32 b)) × (r < 0x7f80_0000) ⌝ }
 {
-    let x = unpack(b as u64);
-    let m = x.significand;
+    let bits = b as u64;
+    let m = HIDDEN_BIT + bits % HIDDEN_BIT;
+    let e = bits / HIDDEN_BIT + 23;
+    let r = nearest_root(scaled_significand(m, e), estimate(bits));
+    ((e + 102) / 2 * HIDDEN_BIT + r) as u32
+}
+
+// The same for a subnormal number. These are rare, so any guess will do.
+fn subnormal_root(b: u32) -> u32
+    requires { ⌜ (0 < b) × (b < 2 ^ 23) ⌝ }
+    ensures { λ r. ⌜ (ofBits binary32 r ≡ D.sqrt (ofBits binary32 b)) × (r < 0x7f80_0000) ⌝ }
+{
+    let x = unpack_subnormal(b as u64);
     let e = x.exponent;
-    let mut n = m * EVEN_SCALE;
-    let mut c = EVEN_ROOT;
-    if e % 2 != 0 {
-        n = m * ODD_SCALE;
-        c = ODD_ROOT;
-    }
-    let r = lower_guess(n, raise_guess(n, estimate(m, c)));
+    let r = nearest_root(scaled_significand(x.significand, e), ROOT_BOUND);
     ((e + 102) / 2 * HIDDEN_BIT + r) as u32
 }
 
@@ -144,8 +156,11 @@ pub fn sqrt(x: f32) -> f32
     }
     let b = f32::to_bits(x);
     if b < INFINITY {
+        if LEAST_NORMAL <= b {
+            return f32::from_bits(normal_root(b));
+        }
         if 0 < b {
-            return f32::from_bits(root_bits(b));
+            return f32::from_bits(subnormal_root(b));
         }
         return x;
     }

@@ -1,0 +1,2 @@
+-- What the words of a case are. Definitions only. Assumes nothing.
+pub mod Words

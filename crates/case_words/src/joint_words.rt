@@ -1,0 +1,89 @@
+// The words of a joint: its base, then the record of its case. A case is a number: 0 for the
+// revolute joint, 1 for the spherical one, 2 for the weld joint, 3 for the empty case, which has no
+// record. Any other number reads as 3, which comparing tells from it.
+ghost use Prim.Native.Nat.{_≤_};
+use crate::record_words::BASE_WORDS;
+use crate::record_words::base;
+use crate::record_words::same_base;
+use crate::revolute_words;
+use crate::spherical_words;
+use crate::weld_words;
+use crate::words::behind;
+use crate::words::word;
+use records::joint::JointSim;
+use records::joint::JointUnion;
+
+// The number of the empty case.
+pub const OTHER: u32 = 3;
+
+// How many words a joint has.
+pub fn words_of(case: u32) -> usize
+    ensures { λ r. ⌜ (46 ≤ r) × (r ≤ 114) ⌝ }
+{
+    match case {
+        0 => BASE_WORDS + revolute_words::WORDS,
+        1 => BASE_WORDS + spherical_words::WORDS,
+        2 => BASE_WORDS + weld_words::WORDS,
+        _ => BASE_WORDS,
+    }
+}
+
+fn case_of(union_: JointUnion) -> u32 {
+    match union_ {
+        JointUnion::Revolute(_) => 0,
+        JointUnion::Spherical(_) => 1,
+        JointUnion::Weld(_) => 2,
+        JointUnion::Other => OTHER,
+    }
+}
+
+fn record(case: u32, p: &[u8]) -> JointUnion {
+    match case {
+        0 => JointUnion::Revolute(revolute_words::record(p)),
+        1 => JointUnion::Spherical(spherical_words::record(p)),
+        2 => JointUnion::Weld(weld_words::record(p)),
+        _ => JointUnion::Other,
+    }
+}
+
+fn same_record(p: &[u8], union_: JointUnion) -> bool {
+    match union_ {
+        JointUnion::Revolute(j) => revolute_words::same_record(p, j),
+        JointUnion::Spherical(j) => spherical_words::same_record(p, j),
+        JointUnion::Weld(j) => weld_words::same_record(p, j),
+        JointUnion::Other => true,
+    }
+}
+
+pub fn joint(case: u32, p: &[u8]) -> JointSim {
+    JointSim {
+        base: base(p),
+        union_: record(case, behind(p, BASE_WORDS)),
+    }
+}
+
+// Whether a joint is of this case, and the words are its.
+pub fn same_joint(case: u32, p: &[u8], joint: JointSim) -> bool {
+    let union_ = joint.union_;
+    (case_of(union_) == case)
+        & same_base(p, joint.base)
+        & same_record(behind(p, BASE_WORDS), union_)
+}
+
+// Whether the words are those of a joint at all, as they are not where a switch is neither 0 nor 1.
+pub fn is_joint(case: u32, p: &[u8]) -> bool {
+    same_joint(case, p, joint(case, p))
+}
+
+// Where the number of its case stands before a joint.
+pub fn cased_words(p: &[u8]) -> usize {
+    1 + words_of(word(p, 0))
+}
+
+pub fn cased_joint(p: &[u8]) -> JointSim {
+    joint(word(p, 0), behind(p, 1))
+}
+
+pub fn same_cased_joint(p: &[u8], joint: JointSim) -> bool {
+    same_joint(word(p, 0), behind(p, 1), joint)
+}

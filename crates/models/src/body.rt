@@ -1,0 +1,149 @@
+// The bodies of the models, and the part of a joint that does not depend on its kind.
+ghost use lib.IntN.{pos};
+ghost use Rattle.models.specs.Model.{Awake, Moves};
+use crate::STEP;
+use math_functions::types::MAT3_ZERO;
+use math_functions::types::Matrix3;
+use math_functions::types::QUAT_IDENTITY;
+use math_functions::types::Quat;
+use math_functions::types::Transform;
+use math_functions::types::VEC3_ZERO;
+use math_functions::types::Vec3;
+use records::AWAKE_SET;
+use records::body::BodyRecord;
+use records::body::BodyState;
+use records::body::DYNAMIC_FLAG;
+use records::joint::JointBase;
+use records::joint::JointType;
+use solver::make_soft;
+
+// The inverse inertia of a slab that does not stand along the axes.
+pub const SLAB: Matrix3 = Matrix3 {
+    cx: Vec3 {
+        x: 2.0,
+        y: 0.125,
+        z: 0.25,
+    },
+    cy: Vec3 {
+        x: 0.125,
+        y: 3.0,
+        z: 0.375,
+    },
+    cz: Vec3 {
+        x: 0.25,
+        y: 0.375,
+        z: 4.0,
+    },
+};
+
+// A joint's frame on its first body, half way to the second.
+pub const FRAME_A: Transform = Transform {
+    p: Vec3 {
+        x: 0.5,
+        y: 0.0625,
+        z: -0.125,
+    },
+    q: QUAT_IDENTITY,
+};
+
+// And on the second, a little turned and tilted.
+pub const FRAME_B: Transform = Transform {
+    p: Vec3 {
+        x: -0.5,
+        y: 0.0625,
+        z: -0.125,
+    },
+    q: Quat {
+        v: Vec3 {
+            x: 0.03125,
+            y: 0.0625,
+            z: 0.046875,
+        },
+        s: 0.996454,
+    },
+};
+
+// The number of what stands fast, above those of all bodies that move.
+pub const POST: u8 = 32;
+
+// What stands fast: it is in the set of the static bodies, and has no state.
+pub const FIXED_BODY: BodyRecord = BodyRecord {
+    set_index: 0,
+    local_index: 0,
+    inv_mass: 0.0,
+    inv_inertia_world: MAT3_ZERO,
+    rotation: QUAT_IDENTITY,
+    center: VEC3_ZERO,
+    local_center: VEC3_ZERO,
+};
+
+// A slab at an index of the awake set, with its centre at x.
+pub fn slab(index: u8, x: f32) -> BodyRecord
+    ensures { λ r. ⌜ Awake (pos index) r ⌝ }
+{
+    BodyRecord {
+        set_index: AWAKE_SET,
+        local_index: index as i32,
+        inv_mass: 1.0,
+        inv_inertia_world: SLAB,
+        rotation: QUAT_IDENTITY,
+        center: Vec3 { x, y: 0.0, z: 0.0 },
+        local_center: VEC3_ZERO,
+    }
+}
+
+// A dynamic body that moves and turns, the faster the larger `speed`.
+pub fn moving(speed: f32) -> BodyState
+    ensures { λ r. ⌜ Moves r ⌝ }
+{
+    BodyState {
+        linear_velocity: Vec3 {
+            x: 0.25 + speed,
+            y: 0.125 - speed,
+            z: 0.5 * speed,
+        },
+        angular_velocity: Vec3 {
+            x: 0.125 - speed,
+            y: 0.5 * speed,
+            z: 0.375 + speed,
+        },
+        delta_position: Vec3 {
+            x: 0.001 * speed,
+            y: -0.002,
+            z: 0.003,
+        },
+        delta_rotation: Quat {
+            v: Vec3 {
+                x: 0.01 * speed,
+                y: 0.02 * speed - 0.02,
+                z: 0.03 * speed,
+            },
+            s: 0.9994,
+        },
+        flags: DYNAMIC_FLAG,
+    }
+}
+
+// The part of a joint that no kind reads by itself: numbers, frames and the softness of a stiff joint.
+pub fn joint_base(type_: JointType, joint: u8, body_a: u8, body_b: u8) -> JointBase {
+    let hertz = 60.0;
+    let damping_ratio = 2.0;
+    JointBase {
+        joint_id: joint as i32,
+        body_id_a: body_a as i32,
+        body_id_b: body_b as i32,
+        type_,
+        local_frame_a: FRAME_A,
+        local_frame_b: FRAME_B,
+        inv_mass_a: 0.0,
+        inv_mass_b: 0.0,
+        inv_i_a: MAT3_ZERO,
+        inv_i_b: MAT3_ZERO,
+        constraint_hertz: hertz,
+        constraint_damping_ratio: damping_ratio,
+        constraint_softness: make_soft(hertz, damping_ratio, STEP.h),
+        force_threshold: 1000.0,
+        torque_threshold: 1000.0,
+        fixed_rotation: false,
+    }
+}

@@ -1,0 +1,92 @@
+// A hip in its socket: a spherical joint with a spring and a motor, whose twist is limited on both
+// sides and whose swing by a cone.
+ghost use lib.IntN.{pos};
+ghost use Rattle.models.specs.Model.{OfCase, Awake, Moves};
+use crate::Model;
+use crate::NO_SOFTNESS;
+use crate::body::joint_base;
+use crate::body::moving;
+use crate::body::slab;
+use math_functions::types::MAT3_ZERO;
+use math_functions::types::Quat;
+use math_functions::types::TRANSFORM_IDENTITY;
+use math_functions::types::VEC3_ZERO;
+use math_functions::types::Vec3;
+use records::NULL_INDEX;
+use records::joint::JointSim;
+use records::joint::JointType;
+use records::joint::JointUnion;
+use records::joint::SphericalJoint;
+
+// The socket, with impulses that a step before has left.
+pub const SOCKET: SphericalJoint = SphericalJoint {
+    linear_impulse: Vec3 {
+        x: 0.01,
+        y: -0.02,
+        z: 0.03,
+    },
+    spring_impulse: Vec3 {
+        x: 0.02,
+        y: 0.01,
+        z: -0.01,
+    },
+    motor_impulse: Vec3 {
+        x: 0.01,
+        y: 0.03,
+        z: -0.02,
+    },
+    lower_twist_impulse: 0.01,
+    upper_twist_impulse: 0.02,
+    swing_impulse: 0.03,
+    hertz: 4.0,
+    damping_ratio: 0.7,
+    max_motor_torque: 20.0,
+    motor_velocity: Vec3 {
+        x: 0.125,
+        y: -0.25,
+        z: 0.375,
+    },
+    lower_twist_angle: -0.125,
+    upper_twist_angle: 0.09375,
+    cone_angle: 0.125,
+    target_rotation: Quat {
+        v: Vec3 {
+            x: 0.02,
+            y: -0.01,
+            z: 0.03,
+        },
+        s: 0.9993,
+    },
+    index_a: NULL_INDEX,
+    index_b: NULL_INDEX,
+    frame_a: TRANSFORM_IDENTITY,
+    frame_b: TRANSFORM_IDENTITY,
+    delta_center: VEC3_ZERO,
+    swing_axis: VEC3_ZERO,
+    twist_jacobian: VEC3_ZERO,
+    rotation_mass: MAT3_ZERO,
+    swing_mass: 0.0,
+    twist_mass: 0.0,
+    spring_softness: NO_SOFTNESS,
+    enable_spring: true,
+    enable_motor: true,
+    enable_cone_limit: true,
+    enable_twist_limit: true,
+};
+
+// The pelvis and the thigh are at indices of the awake set.
+pub fn hip(pelvis: u8, thigh: u8) -> Model
+    ensures { λ r. ⌜ OfCase 1 r × Awake (pos pelvis) (r .«body_a») × Awake (pos thigh) (r .«body_b») × Moves (r .«state_a») × Moves (r .«state_b») ⌝ }
+{
+    let joint = JointSim {
+        base: joint_base(JointType::Spherical, 1, pelvis, thigh),
+        union_: JointUnion::Spherical(SOCKET),
+    };
+    Model {
+        joint,
+        body_a: slab(pelvis, 2.0),
+        body_b: slab(thigh, 3.0),
+        state_a: moving(0.5),
+        state_b: moving(0.75),
+    }
+}

@@ -1,0 +1,63 @@
+// A strut welded to its pier: a weld joint that gives a little, in place and in angle.
+ghost use lib.IntN.{pos};
+ghost use Rattle.models.specs.Model.{OfCase, Fixed, Awake, Moves};
+use crate::Model;
+use crate::NO_SOFTNESS;
+use crate::body::FIXED_BODY;
+use crate::body::POST;
+use crate::body::joint_base;
+use crate::body::moving;
+use crate::body::slab;
+use math_functions::types::MAT3_ZERO;
+use math_functions::types::TRANSFORM_IDENTITY;
+use math_functions::types::VEC3_ZERO;
+use math_functions::types::Vec3;
+use records::NULL_INDEX;
+use records::body::IDENTITY_BODY_STATE;
+use records::joint::JointSim;
+use records::joint::JointType;
+use records::joint::JointUnion;
+use records::joint::WeldJoint;
+
+// The weld, with impulses that a step before has left.
+pub const WELD: WeldJoint = WeldJoint {
+    linear_hertz: 2.0,
+    linear_damping_ratio: 0.5,
+    angular_hertz: 2.0,
+    angular_damping_ratio: 0.7,
+    linear_spring: NO_SOFTNESS,
+    angular_spring: NO_SOFTNESS,
+    linear_impulse: Vec3 {
+        x: 0.01,
+        y: -0.02,
+        z: 0.03,
+    },
+    angular_impulse: Vec3 {
+        x: 0.02,
+        y: 0.01,
+        z: -0.01,
+    },
+    index_a: NULL_INDEX,
+    index_b: NULL_INDEX,
+    frame_a: TRANSFORM_IDENTITY,
+    frame_b: TRANSFORM_IDENTITY,
+    delta_center: VEC3_ZERO,
+    angular_mass: MAT3_ZERO,
+};
+
+// The pier stands fast, and the strut is at an index of the awake set.
+pub fn strut(strut: u8) -> Model
+    ensures { λ r. ⌜ OfCase 2 r × Fixed (r .«body_a») × Awake (pos strut) (r .«body_b») × Moves (r .«state_b») ⌝ }
+{
+    let joint = JointSim {
+        base: joint_base(JointType::Weld, 2, POST, strut),
+        union_: JointUnion::Weld(WELD),
+    };
+    Model {
+        joint,
+        body_a: FIXED_BODY,
+        body_b: slab(strut, 1.0),
+        state_a: IDENTITY_BODY_STATE,
+        state_b: moving(0.5),
+    }
+}

@@ -1,0 +1,51 @@
+-- `print_bodies` is safe. Assumes nothing.
+use Prim.Native.Nat.{ℕ, _-_, _≤_}
+use native.Mathlib.Omega.{arith}
+use borrow.Author.Needs.{needs}
+use Rattle.panel.proofs.print_bodies.Statement.{statement}
+use Rattle.panel.proofs.print_bodies.Tie as tie
+
+abbrev Inv-loop : tie.InvT-loop
+Inv-loop scene k₀ k = k ≤ 4
+
+abbrev μ-loop : tie.MeasureT-loop
+μ-loop scene k₀ k = 4 - k
+
+loop-holds : tie.Need-loop-holds Inv-loop μ-loop
+loop-holds cNone = search needs
+
+mul-state : tie.Need-mul-state Inv-loop μ-loop
+mul-state c = omega arith
+
+element-copy-out-state : tie.Need-element-copy-out-state Inv-loop μ-loop
+element-copy-out-state c = omega arith
+
+print-body-requires : tie.Need-print-body-requires Inv-loop μ-loop
+print-body-requires c κs = search needs
+
+add-k : tie.Need-add-k Inv-loop μ-loop
+add-k c = omega arith
+
+loop-less : tie.Need-loop-less Inv-loop μ-loop
+loop-less c = omega arith
+
+loop-again : tie.Need-loop-again Inv-loop μ-loop
+loop-again c = omega arith
+
+returns : tie.Need-returns Inv-loop μ-loop
+returns cNone = tt
+
+pub print-bodies-spec : {M : Type 1} → statement M
+print-bodies-spec =
+    tie.close
+    (tie.spec
+    Inv-loop
+    μ-loop
+    loop-holds
+    mul-state
+    element-copy-out-state
+    print-body-requires
+    add-k
+    loop-less
+    loop-again
+    returns)

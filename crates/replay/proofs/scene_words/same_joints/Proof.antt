@@ -1,0 +1,62 @@
+-- `replay::scene_words::same_joints` is safe and ends: the measure is the number of places that are left. Assumes nothing.
+use Prim.Native.Nat.{_-_}
+use borrow.Author.Needs.{needs}
+use Rattle.replay.proofs.scene_words.same_joints.Statement.{statement}
+use Rattle.replay.proofs.scene_words.same_joints.Tie as tie
+
+abbrev Inv-loop : tie.InvT-loop
+Inv-loop p count joints same₀ words₀ k₀ same words k = Unit {0}
+
+abbrev μ-loop : tie.MeasureT-loop
+μ-loop p count joints same₀ words₀ k₀ same words k = 32 - k
+
+loop-holds : tie.Need-loop-holds Inv-loop μ-loop
+loop-holds c = search needs
+
+behind-requires : tie.Need-behind-requires Inv-loop μ-loop
+behind-requires c κs = search needs
+
+mul-joint : tie.Need-mul-joint Inv-loop μ-loop
+mul-joint c = search needs
+
+array-copy-out-joint : tie.Need-array-copy-out-joint Inv-loop μ-loop
+array-copy-out-joint c = search needs
+
+same-joint-place-requires : tie.Need-same-joint-place-requires Inv-loop μ-loop
+same-joint-place-requires c κs = search needs
+
+cased-words-requires : tie.Need-cased-words-requires Inv-loop μ-loop
+cased-words-requires c κs = search needs
+
+plus-requires : tie.Need-plus-requires Inv-loop μ-loop
+plus-requires c κs = search needs
+
+add-k : tie.Need-add-k Inv-loop μ-loop
+add-k c = search needs
+
+loop-less : tie.Need-loop-less Inv-loop μ-loop
+loop-less c = search needs
+
+loop-again : tie.Need-loop-again Inv-loop μ-loop
+loop-again c = search needs
+
+returns : tie.Need-returns Inv-loop μ-loop
+returns c = search needs
+
+pub same-joints-spec : {M : Type 1} → statement M
+same-joints-spec =
+    tie.close
+    (tie.spec
+    Inv-loop
+    μ-loop
+    loop-holds
+    behind-requires
+    mul-joint
+    array-copy-out-joint
+    same-joint-place-requires
+    cased-words-requires
+    plus-requires
+    add-k
+    loop-less
+    loop-again
+    returns)

@@ -1,0 +1,115 @@
+// The cases of call lists.
+//
+// The inputs are the scene's two counts, how many joints and states are given, how many bytes the
+// list has, the context, the joints, the states, and the list, four bytes to a word. The answer is
+// number, place, still, the two counts, the context, the joints and the states. As in stages.rt,
+// what was read is compared with the words that it was read from too.
+ghost use Prim.Native.Nat.{_≤_};
+use crate::scene_words::same_joints;
+use crate::scene_words::same_states;
+use crate::scene_words::with_joints;
+use crate::scene_words::with_states;
+use crate::scene_words::words_of_joints;
+use call_list::run_list;
+use case_words::compare::has_words;
+use case_words::compare::same_switch;
+use case_words::compare::same_word;
+use case_words::record_words::CONTEXT_WORDS;
+use case_words::record_words::STATE_WORDS;
+use case_words::record_words::context;
+use case_words::record_words::same_context;
+use case_words::words::behind;
+use case_words::words::plus;
+use case_words::words::word;
+use scene::Run;
+use scene::Scene;
+use scene::empty_scene;
+
+// How many words stand before the joints, in the inputs and in the answer.
+const HEAD_WORDS: usize = 5 + CONTEXT_WORDS;
+
+fn scene_of(p: &[u8], joints: usize, states: usize) -> Scene
+    requires { ⌜ (joints ≤ 32) × (states ≤ 32) ⌝ }
+{
+    let rest = behind(p, HEAD_WORDS);
+    let empty = empty_scene(context(behind(p, 5)));
+    let no_joints = empty.joints;
+    let no_states = empty.bodies;
+    let step = empty.context;
+    Scene {
+        joints: with_joints(no_joints, rest, joints),
+        bodies: with_states(
+            no_states,
+            behind(rest, words_of_joints(rest, joints)),
+            states,
+        ),
+        joint_count: word(p, 0),
+        body_count: word(p, 1),
+        context: step,
+    }
+}
+
+// Whether the words are a scene's, from the context on.
+fn same_scene(p: &[u8], joints: usize, states: usize, scene: Scene) -> bool {
+    let rest = behind(p, CONTEXT_WORDS);
+    let all_joints = scene.joints;
+    let all_states = scene.bodies;
+    same_context(p, scene.context)
+        & same_joints(rest, all_joints, joints)
+        & same_states(
+            behind(rest, words_of_joints(rest, joints)),
+            all_states,
+            states,
+        )
+}
+
+// The first n bytes, or all.
+fn first_bytes(p: &[u8], n: usize) -> &[u8] {
+    if n < p.len() {
+        return &p[0..n];
+    }
+    p
+}
+
+// Whether the words are those of what a run answers.
+fn same_run(p: &[u8], joints: usize, states: usize, run: Run) -> bool {
+    let scene = run.scene;
+    same_word(p, 0, run.number)
+        & same_word(p, 1, run.place)
+        & same_switch(p, 2, run.still)
+        & same_word(p, 3, scene.joint_count)
+        & same_word(p, 4, scene.body_count)
+        & same_scene(behind(p, 5), joints, states, scene)
+}
+
+// The case of `joints` joints, `states` states and a list of `bytes` bytes.
+fn agrees_run(p: &[u8], joints: usize, states: usize, bytes: usize) -> bool
+    requires { ⌜ (joints ≤ 32) × (states ≤ 32) ⌝ }
+{
+    let before = behind(p, HEAD_WORDS);
+    let words = plus(words_of_joints(before, joints), states * STATE_WORDS);
+    let list = behind(before, words);
+    let list_words = bytes / 4 + (bytes % 4 + 3) / 4;
+    let answer = behind(list, list_words);
+    let scene = scene_of(p, joints, states);
+    has_words(
+        p,
+        plus(plus(2 * HEAD_WORDS, plus(words, words)), list_words),
+    )
+        & same_scene(behind(p, 5), joints, states, scene)
+        & same_run(
+            answer,
+            joints,
+            states,
+            run_list(scene, first_bytes(list, bytes)),
+        )
+}
+
+pub fn agrees(f: u32, p: &[u8]) -> bool {
+    let joints = word(p, 2) as usize;
+    let states = word(p, 3) as usize;
+    if f != 0xa0 || joints > 32 || states > 32 {
+        return false;
+    }
+    agrees_run(p, joints, states, word(p, 4) as usize)
+}

@@ -1,0 +1,113 @@
+// The joints and states of a scene: as many as a case gives, one behind the other, the joints each
+// behind the number of its case. The places behind them are not in use.
+ghost use Prim.Native.Nat.{_≤_};
+use case_words::joint_words::OTHER;
+use case_words::joint_words::cased_joint;
+use case_words::joint_words::cased_words;
+use case_words::joint_words::same_cased_joint;
+use case_words::joint_words::same_joint;
+use case_words::record_words::STATE_WORDS;
+use case_words::record_words::same_state;
+use case_words::record_words::state;
+use case_words::words::behind;
+use case_words::words::plus;
+use records::body::BodyState;
+use records::joint::JointSim;
+
+// How many words the first `count` joints of some words have.
+pub fn words_of_joints(p: &[u8], count: usize) -> usize {
+    let mut words = 0usize;
+    let mut k = 0usize;
+    while k < count {
+        words = plus(words, cased_words(behind(p, words)));
+        k += 1;
+    }
+    words
+}
+
+// The joints with the first `count` of them read.
+pub fn with_joints(unused: [JointSim; 32], p: &[u8], count: usize) -> [JointSim; 32]
+    requires { ⌜ count ≤ 32 ⌝ }
+{
+    let mut joints = unused;
+    let mut words = 0usize;
+    let mut k = 0usize;
+    while k < count {
+        let rest = behind(p, words);
+        let joint = cased_joint(rest);
+        joints[k] = joint;
+        words = plus(words, cased_words(rest));
+        k += 1;
+    }
+    joints
+}
+
+pub fn with_states(unused: [BodyState; 32], p: &[u8], count: usize) -> [BodyState; 32]
+    requires { ⌜ count ≤ 32 ⌝ }
+{
+    let mut states = unused;
+    let mut k = 0usize;
+    while k < count {
+        let state = state(behind(p, k * STATE_WORDS));
+        states[k] = state;
+        k += 1;
+    }
+    states
+}
+
+// Whether a joint is not in use. These are its words up to the last that is not 0: the three ids
+// are -1, the type is that of a distance joint, and both frames are the identity.
+fn is_unused_joint(joint: JointSim) -> bool {
+    let words = b"\xff\xff\xff\xff\xff\xff\xff\xff\xff\xff\xff\xff\x01\0\0\0\
+        \0\0\0\0\0\0\0\0\0\0\0\0\0\0\0\0\0\0\0\0\0\0\0\0\0\0\x80\x3f\
+        \0\0\0\0\0\0\0\0\0\0\0\0\0\0\0\0\0\0\0\0\0\0\0\0\0\0\x80\x3f";
+    same_joint(OTHER, words, joint)
+}
+
+// Whether a state is the identity state, whose last word that is not 0 is that of the rotation.
+fn is_identity_state(state: BodyState) -> bool {
+    let words = b"\0\0\0\0\0\0\0\0\0\0\0\0\0\0\0\0\0\0\0\0\0\0\0\0\
+        \0\0\0\0\0\0\0\0\0\0\0\0\0\0\0\0\0\0\0\0\0\0\0\0\0\0\x80\x3f";
+    same_state(words, state)
+}
+
+fn same_joint_place(is_given: bool, p: &[u8], joint: JointSim) -> bool {
+    if is_given {
+        return same_cased_joint(p, joint);
+    }
+    is_unused_joint(joint)
+}
+
+fn same_state_place(is_given: bool, p: &[u8], state: BodyState) -> bool {
+    if is_given {
+        return same_state(p, state);
+    }
+    is_identity_state(state)
+}
+
+// Whether the words are those of the first `count` joints, and the others are unused.
+pub fn same_joints(p: &[u8], joints: [JointSim; 32], count: usize) -> bool {
+    let mut same = true;
+    let mut words = 0usize;
+    let mut k = 0usize;
+    while k < 32 {
+        let rest = behind(p, words);
+        let joint = joints[k];
+        same = same & same_joint_place(k < count, rest, joint);
+        words = plus(words, cased_words(rest));
+        k += 1;
+    }
+    same
+}
+
+pub fn same_states(p: &[u8], states: [BodyState; 32], count: usize) -> bool {
+    let mut same = true;
+    let mut k = 0usize;
+    while k < 32 {
+        let rest = behind(p, k * STATE_WORDS);
+        let state = states[k];
+        same = same & same_state_place(k < count, rest, state);
+        k += 1;
+    }
+    same
+}

@@ -1,0 +1,60 @@
+// The stages of the kinds, called alike. A kind is a number: 0 for the revolute joint, 1 for the
+// spherical one, and else the weld joint.
+use constraint::answer::Prepared;
+use constraint::answer::Solved;
+use constraint::answer::WarmStarted;
+use records::body::BodyRecord;
+use records::body::BodyState;
+use records::joint::JointSim;
+use revolute::prepare_revolute_joint;
+use revolute::solve_revolute_joint;
+use revolute::warm_start_revolute_joint;
+use solver::StepContext;
+use spherical::prepare_spherical_joint;
+use spherical::solve_spherical_joint;
+use spherical::warm_start_spherical_joint;
+use weld::prepare_weld_joint;
+use weld::solve_weld_joint;
+use weld::warm_start_weld_joint;
+
+pub fn prepare(
+    kind: u32,
+    joint: JointSim,
+    context: StepContext,
+    body_a: BodyRecord,
+    body_b: BodyRecord,
+) -> Prepared {
+    match kind {
+        0 => prepare_revolute_joint(joint, context, body_a, body_b),
+        1 => prepare_spherical_joint(joint, context, body_a, body_b),
+        _ => prepare_weld_joint(joint, context, body_a, body_b),
+    }
+}
+
+pub fn warm_start(
+    kind: u32,
+    joint: JointSim,
+    state_a: BodyState,
+    state_b: BodyState,
+) -> WarmStarted {
+    match kind {
+        0 => warm_start_revolute_joint(joint, state_a, state_b),
+        1 => warm_start_spherical_joint(joint, state_a, state_b),
+        _ => warm_start_weld_joint(joint, state_a, state_b),
+    }
+}
+
+pub fn solve(
+    kind: u32,
+    joint: JointSim,
+    context: StepContext,
+    state_a: BodyState,
+    state_b: BodyState,
+    use_bias: bool,
+) -> Solved {
+    match kind {
+        0 => solve_revolute_joint(joint, context, state_a, state_b, use_bias),
+        1 => solve_spherical_joint(joint, context, state_a, state_b, use_bias),
+        _ => solve_weld_joint(joint, context, state_a, state_b, use_bias),
+    }
+}
