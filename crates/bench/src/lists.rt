@@ -1,0 +1,41 @@
+// Call lists of 4,096 calls on a wall of gates: the slots in turn, again and again.
+ghost use mathlib.Core.Path.{_≡_};
+ghost use lib.ListN.{length};
+use crate::sum::sum_scene;
+use crate::wall::wall;
+use call_list::run_list;
+
+// The stage of a call: that of the list, or the three in turn over the rounds.
+fn stage_of(stages: u8, round: u8) -> u8 {
+    if stages < 3 { stages } else { round % 3 }
+}
+
+fn low_byte(x: usize) -> u8 {
+    (x % 256) as u8
+}
+
+fn list_of(stages: u8) -> [u8; 8192]
+    ensures { λ r. ⌜ 8192 ≡ length r ⌝ }
+{
+    let mut list = [0u8; 8192];
+    let mut i: usize = 0;
+    while i < 4096 {
+        list[2 * i] = low_byte(i % 32);
+        list[2 * i + 1] = stage_of(stages, low_byte(i / 32));
+        i += 1;
+    }
+    list
+}
+
+// The list again and again, each time on what the run before it left.
+pub fn run_lists(kind: u8, stages: u8, repeats: u64) -> u32 {
+    let list = list_of(stages);
+    let mut scene = wall(kind);
+    let mut n = 0u64;
+    while n < repeats {
+        let run = run_list(scene, &list);
+        scene = run.scene;
+        n += 1;
+    }
+    sum_scene(scene)
+}
