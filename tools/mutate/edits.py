@@ -56,7 +56,8 @@ class Sites:
     def put(self, kind, node, new):
         """`new` for a value; where a struct's field stands alone, as in `Pair { a, b }`, its name is written out"""
         label = getattr(node, "label", None)
-        self.add(kind, node.start, node.end, f"{label}: {new}" if label else new)
+        if new != self.text(node):
+            self.add(kind, node.start, node.end, f"{label}: {new}" if label else new)
 
     # ---- the walk: `role` says how the parent uses the value
 

@@ -217,7 +217,7 @@ def outcome(status, text, crate):
     if status == 0:
         return Outcome("accepted", crate=crate)
     if status == 1 and re.search(r"^logic=not-proved", text, re.M):
-        first = ERROR.search(text)
+        first = first_error(text)
         message = first.group(3) if first else text[-600:]
         return Outcome("refused", reason_of(message), where_of(first) + message, crate)
     if status == 1 and re.search(r"^\S+\.rt:\d+:\d+: error", text, re.M):
@@ -225,6 +225,13 @@ def outcome(status, text, crate):
     if status in (None, 1, 3):
         return Outcome("undecided", first=text[-600:], crate=crate)
     raise Unready(f"rt ended with status {status} on {crate}\n{text[-2000:]}")
+
+
+def first_error(text):
+    """the first error that is not only a consequence of another"""
+    errors = list(ERROR.finditer(text))
+    own = [e for e in errors if "was not admitted" not in e.group(3)]
+    return next(iter(own + errors), None)
 
 
 def where_of(error):
