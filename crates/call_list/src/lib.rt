@@ -1,18 +1,20 @@
 // A call list, run on a scene. The whole list is checked before anything runs.
 ghost use mathlib.Core.Path.{_≡_};
+ghost use Prim.Native.Nat.{_≤_};
 ghost use Rattle.scene.specs.Calls.{calls};
-ghost use Rattle.scene.specs.Plain.{Accepted, runCalls, plainRun};
+ghost use Rattle.scene.specs.Plain.{Accepted, runCalls, sameBelow, plainRun};
 use crate::check::check_list;
 use crate::places::joint_place;
 use crate::places::places_of;
 use crate::places::with_identity;
 use crate::places::without_identity;
-use crate::still::is_still;
+use crate::still::same_velocities;
 use constraint::velocity::velocities_of;
 use joint::index::case_of;
 use joint::stage::stage_as_revolute;
 use joint::stage::stage_as_spherical;
 use joint::stage::stage_as_weld;
+use records::body::BodyState;
 use records::body::store_velocities;
 use records::joint::JointSim;
 use scene::Run;
@@ -88,6 +90,24 @@ fn run_calls(scene: Scene, list: &[u8]) -> Scene
     let end = without_identity(bodies);
     next.bodies = end;
     next
+}
+
+// Whether the first `count` bodies kept their velocities.
+fn is_still(count: u32, before: [BodyState; 32], after: [BodyState; 32]) -> bool
+    requires { ⌜ count ≤ 32 ⌝ }
+    ensures { λ r. ⌜ r ≡ sameBelow count before after ⌝ }
+{
+    let n = count as usize;
+    let mut k: usize = 0;
+    let mut same = true;
+    while k < n {
+        let a = before[k];
+        let b = after[k];
+        let e = same_velocities(a, b);
+        same = same & e;
+        k += 1;
+    }
+    same
 }
 
 // The run of a list of any bytes on a scene of any counts.

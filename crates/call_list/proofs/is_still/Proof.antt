@@ -1,4 +1,4 @@
--- `still::is_still` equals its definition: `same` is the answer for the bodies below `k`. Assumes nothing.
+-- `is_still` equals its definition: `same` is the answer for the bodies below `k`. Assumes nothing.
 use mathlib.Core.Path.{_≡_, refl, ap, _∙_}
 use Prim.Native.Nat.{_+_, _-_, _≤_, _<_}
 use native.Mathlib.Omega.{arith}
@@ -6,8 +6,8 @@ use lib.ListN.{length}
 use borrow.Author.Needs.{needs}
 use Rattle.scene.specs.Plain.{sameBelow}
 use Rattle.call_list.proofs.Lists.{same-more}
-use Rattle.call_list.proofs.still.is_still.Statement.{statement}
-use Rattle.call_list.proofs.still.is_still.Tie as tie
+use Rattle.call_list.proofs.is_still.Statement.{statement}
+use Rattle.call_list.proofs.is_still.Tie as tie
 
 abbrev Inv-loop : tie.InvT-loop
 Inv-loop count before after n k₀ same₀ k same = (k ≤ n) × (same ≡ sameBelow k before after)
