@@ -18,17 +18,7 @@ mod stage_edges;
 mod stages;
 mod words;
 
-/// The published files and the stubs beside them. Most of what they hold is not called here.
-macro_rules! published {
-    ($($name:ident)+) => {
-        $(#[allow(warnings)] mod $name;)+
-    };
-}
-
-published! {
-    body constants constraint_graph contact core geometry id island joint manifold math_functions
-    rapidhash recording solver solver_set types world
-}
+include!("published.rs");
 
 use cases::{List, Step};
 use reorder::Tally;
