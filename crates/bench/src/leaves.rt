@@ -1,5 +1,5 @@
 // The two leaves that the language does not supply.
-use crate::sum::add_float;
+use bench_wall::sum::add_float;
 use math_functions::scalar::atan2;
 use sqrt::sqrt;
 

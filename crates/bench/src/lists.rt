@@ -1,9 +1,10 @@
 // Call lists of 4,096 calls on a wall of gates: the slots in turn, again and again.
 ghost use mathlib.Core.Path.{_≡_};
 ghost use lib.ListN.{length};
-use crate::sum::sum_scene;
-use crate::wall::wall;
+use bench_wall::sum::add_gate;
+use bench_wall::wall::wall;
 use call_list::run_list;
+use scene::Scene;
 
 // The stage of a call: that of the list, or the three in turn over the rounds.
 fn stage_of(stages: u8, round: u8) -> u8 {
@@ -25,6 +26,18 @@ fn list_of(stages: u8) -> [u8; 8192]
         i += 1;
     }
     list
+}
+
+fn sum_scene(scene: Scene) -> u32 {
+    let mut sum = 0u32;
+    let mut k: usize = 0;
+    while k < 32 {
+        let joint = scene.joints[k];
+        let state = scene.bodies[k];
+        sum = add_gate(sum, joint, state);
+        k += 1;
+    }
+    sum
 }
 
 // The list again and again, each time on what the run before it left.

@@ -2,10 +2,9 @@
 // fewer arguments it works each row once, and prints for each its number and its checksum.
 mod leaves;
 mod lists;
-mod sum;
-mod wall;
 
 ghost use Prim.Native.Nat.{_<_};
+use bench_wall::arguments::argument;
 use leaves::arctangents;
 use leaves::roots;
 use libc::STDOUT_FILENO;
@@ -23,42 +22,6 @@ fn work(row: u8, repeats: u64) -> u32
         17 => arctangents(4096 * repeats),
         _ => run_lists(row / 4, row % 4, repeats),
     }
-}
-
-// What a byte adds as a digit; 10 or more for one that is no digit.
-fn digit(byte: u8) -> u64 {
-    if byte < b'0' {
-        return 10;
-    }
-    (byte - b'0') as u64
-}
-
-// The number that a text of digits names; 0 for any other text, and for one of more than nine digits.
-fn number(text: &[u8]) -> u64
-    ensures { λ r. ⌜ r < 1000000000 ⌝ }
-{
-    let mut n = 0u64;
-    let mut i: usize = 0;
-    while i < text.len() {
-        let d = digit(text[i]);
-        if 9 < d {
-            return 0;
-        }
-        if 100000000 <= n {
-            return 0;
-        }
-        n = n * 10 + d;
-        i += 1;
-    }
-    n
-}
-
-fn argument(i: usize) -> u64
-    ensures { λ r. ⌜ r < 1000000000 ⌝ }
-{
-    let mut text = io::buffer();
-    let length = os::arg(i, &mut text);
-    number(&text[..length])
 }
 
 fn write_row(row: u8) {

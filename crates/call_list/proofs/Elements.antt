@@ -7,7 +7,7 @@ use Prim.Native.Nat.{ℕ, zero, suc, _+_, _≤_, _<_, min}
 use native.Mathlib.Nat.{le-of-suc-le-suc}
 use native.Mathlib.Numerals.{add-one}
 use native.Mathlib.Omega.{arith}
-use lib.Dec.{ltb}
+use lib.Dec.{eqb, ltb}
 use lib.Ieee.{Float}
 use lib.IntN.{ℤ, pos, negsuc}
 use lib.ListN.{length, getD, set, take, drop, replicate, length-map, length-set, length-take, List·getD-append, List·getD-eq-default}
@@ -15,7 +15,7 @@ use lib.Seq.{set-getD, set-out, set-at, set-append-left, take-suc, take-all, dro
 use mir.Syntax.{w32}
 use mir.Val.{SFits, toZ, ofZ}
 use mir.ValLaws.{toZ-ofZ}
-use borrow.Author.Tests.{eq-eqb, lt-ltb, ltb-true, ltb-false}
+use borrow.Author.Tests.{eq-eqb, ne-eqb, eqb-true, eqb-false, lt-ltb, ltb-true, ltb-false}
 use Rattle.records.proofs.joint.JointSim as JointField
 use Rattle.records.proofs.body.BodyState as BodyField
 use Rattle.math_functions.specs.declared.types.Vec3.{Vec3}
@@ -23,21 +23,20 @@ use Rattle.solver.specs.declared.StepContext.{StepContext}
 use Rattle.records.specs.declared.body.BodyState.{BodyState}
 use Rattle.records.specs.declared.joint.JointUnion.{JointUnion}
 use Rattle.records.specs.declared.joint.JointUnion.the-variants.{Revolute, Spherical, Weld, Other}
-use Rattle.records.specs.declared.joint.JointBase.{JointBase}
 use Rattle.records.specs.declared.joint.JointSim.{JointSim}
 use Rattle.records.specs.Body.{isDynamic, storeVelocities, identityBodyState}
 use Rattle.constraint.specs.declared.velocity.Velocities.{Velocities}
 use Rattle.constraint.specs.Velocity.{velocitiesOf}
 use Rattle.constraint.specs.Answer.{jointSim}
 use Rattle.joint.specs.declared.stage.Staged.{Staged}
-use Rattle.joint.specs.Stage.{staged, stageJoint, stageAs}
+use Rattle.joint.specs.Stage.{staged, warmStartJoint, solveJoint, stageJoint, warmStartAs, solveAs}
 use Rattle.scene.specs.declared.Scene.{Scene}
 use Rattle.records.specs.Joint.{unusedJoint}
 use Rattle.joint.specs.Index.{caseOf, indexA, indexB}
 use Rattle.scene.specs.Scene.{stateAt, store}
 use Rattle.scene.specs.Calls.{call}
 use Rattle.scene.specs.Plain.{storeBoth, step}
-use Rattle.call_list.specs.Places.{bodyPlace, jointPlace, withIdentity}
+use Rattle.call_list.specs.Places.{bodyPlace, stageCode, jointPlace, withIdentity}
 
 -- in range the value past the end does not matter
 pub getD-any {ℓ} : {A : Type ℓ} (l : List A) (i : ℕ) (d e : A) → i < length l → getD l i d ≡ getD l i e
@@ -137,7 +136,34 @@ pub record Worked (t : Scene) (at : ℕ) (d : JointSim) (r : Staged) (next : Sce
   pub stored : next ≡ remade t (t .bodies) (set (t .joints) at (jointSim (getD (t .joints) at d .base) (r .«union_»)))
   pub moved : v ≡ r .velocities
 
-module _ (t : Scene) (at : ℕ) (d : JointSim) (h i : Float) (a b : BodyState) (stage c : ℕ) (next : Scene) (v : Velocities) where
+-- what a stage's number tells: the case, and whether it is a warm start
+warm-code : (u : JointUnion) (stage k : ℕ) → stageCode u stage ≡ k → k < 3 → (caseOf u ≡ k) × (stage ≡ 0)
+unfolding stageCode
+warm-code u stage k e h = by u (eqb stage 0) refl e
+  where
+    by : (u : JointUnion) (b : Bool) → eqb stage 0 ≡ b → stageCode u stage ≡ k → (caseOf u ≡ k) × (stage ≡ 0)
+    by (Revolute j) true f e = (rw f at e, eqb-true stage 0 f)
+    by (Spherical j) true f e = (rw f at e, eqb-true stage 0 f)
+    by (Weld j) true f e = (rw f at e, eqb-true stage 0 f)
+    by (Revolute j) false f e = let g : 3 ≡ k = rw f at e in absurd (omega (arith, g))
+    by (Spherical j) false f e = let g : 4 ≡ k = rw f at e in absurd (omega (arith, g))
+    by (Weld j) false f e = let g : 5 ≡ k = rw f at e in absurd (omega (arith, g))
+    by Other b f e = let g : 6 ≡ k = e in absurd (omega (arith, g))
+
+solve-code : (u : JointUnion) (stage k : ℕ) → stageCode u stage ≡ k + 3 → k < 3 → (caseOf u ≡ k) × (stage ≢ 0)
+unfolding stageCode
+solve-code u stage k e h = by u (eqb stage 0) refl e
+  where
+    by : (u : JointUnion) (b : Bool) → eqb stage 0 ≡ b → stageCode u stage ≡ k + 3 → (caseOf u ≡ k) × (stage ≢ 0)
+    by (Revolute j) true f e = let g : 0 ≡ k + 3 = rw f at e in absurd (omega (arith, g))
+    by (Spherical j) true f e = let g : 1 ≡ k + 3 = rw f at e in absurd (omega (arith, g))
+    by (Weld j) true f e = let g : 2 ≡ k + 3 = rw f at e in absurd (omega (arith, g))
+    by (Revolute j) false f e = let g : 3 ≡ k + 3 = rw f at e in (omega (arith, g), eqb-false stage 0 f)
+    by (Spherical j) false f e = let g : 4 ≡ k + 3 = rw f at e in (omega (arith, g), eqb-false stage 0 f)
+    by (Weld j) false f e = let g : 5 ≡ k + 3 = rw f at e in (omega (arith, g), eqb-false stage 0 f)
+    by Other b f e = let g : 6 ≡ k + 3 = e in absurd (omega (arith, g))
+
+module _ (t : Scene) (at : ℕ) (d : JointSim) (h i : Float) (a b : BodyState) (stage c : ℕ) (next : Scene) (v : Velocities) (coded : c ≡ stageCode (getD (t .joints) at d .«union_») stage) where
   abbrev j : JointSim
   j = getD (t .joints) at d
 
@@ -145,31 +171,52 @@ module _ (t : Scene) (at : ℕ) (d : JointSim) (h i : Float) (a b : BodyState) (
   abbrev pub its-stage : Staged
   its-stage = stageJoint (j .«union_») (j .base) h i a b stage
 
-  -- in the arm of a kind, the joint is of that kind
-  pub worked-as : (k : ℕ) (r : Staged) → c ≡ caseOf (j .«union_») → c ≡ k → r ≡ stageAs k (j .«union_») (j .base) h i a b stage
-      → next ≡ remade t (t .bodies) (set (t .joints) at (jointSim (j .base) (r .«union_»)))
+  abbrev put : JointUnion → Scene
+  put u = remade t (t .bodies) (set (t .joints) at (jointSim (j .base) u))
+
+  -- where the stage leaves the joint as it was
+  unmoved : (w : Velocities) → staged (j .«union_») w ≡ its-stage → next ≡ t → v ≡ w → Worked t at d its-stage next v
+  unmoved w same n m =
+      record {
+        stored = n ∙ ap (remade t (t .bodies)) (sym (set-getD (t .joints) at d)) ∙ ap (λ x. put (x .«union_»)) same;
+        moved = m ∙ ap (λ x. x .velocities) same;
+      }
+
+  -- in the arm of a kind's warm start
+  pub worked-warm : (k : ℕ) → c ≡ k → k < 3 → v ≡ warmStartAs k (j .«union_») (j .base) a b → next ≡ t → Worked t at d its-stage next v
+  unfolding stageJoint warmStartAs
+  worked-warm k f low g n =
+      let of = warm-code (j .«union_») stage k (sym coded ∙ f) low in
+      unmoved (warmStartJoint (j .«union_») (j .base) a b) (rw (eq-eqb stage 0 (of .1))) n (g ∙ rw (eq-eqb (caseOf (j .«union_»)) k (of .0)))
+
+  -- in the arm of a kind's solve
+  pub worked-solve : (k : ℕ) (r : Staged) (left : JointSim) → c ≡ k + 3 → k < 3 → r ≡ solveAs k (j .«union_») (j .base) h i a b (eqb stage 1) → left ≡ jointSim (j .base) (r .«union_»)
+      → next ≡ remade t (t .bodies) (set (t .joints) at left)
       → v ≡ r .velocities
       → Worked t at d its-stage next v
-  unfolding stageAs
-  worked-as k r e f g n m =
-      let same : r ≡ its-stage = g ∙ rw (eq-eqb (caseOf (j .«union_»)) k (sym e ∙ f)) in
-      record { stored = n ∙ ap (λ x. remade t (t .bodies) (set (t .joints) at (jointSim (j .base) (x .«union_»)))) same; moved = m ∙ ap (λ x. x .velocities) same }
+  unfolding stageJoint solveAs
+  worked-solve k r left f low g keeps n m =
+      let of = solve-code (j .«union_») stage k (sym coded ∙ f) low in
+      let same : r ≡ its-stage = g ∙ rw (eq-eqb (caseOf (j .«union_»)) k (of .0), ne-eqb stage 0 (of .1)) in
+      record { stored = n ∙ ap (λ x. remade t (t .bodies) (set (t .joints) at x)) keeps ∙ ap (λ x. put (x .«union_»)) same; moved = m ∙ ap (λ x. x .velocities) same }
 
-  other : (u : JointUnion) → c ≡ caseOf u → c ≢ 0 → c ≢ 1 → c ≢ 2 → stageJoint u (j .base) h i a b stage ≡ staged u (velocitiesOf a b)
-  unfolding stageJoint
-  other (Revolute r) e p q s = absurd (p e)
-  other (Spherical r) e p q s = absurd (q e)
-  other (Weld r) e p q s = absurd (s e)
-  other Other e p q s = refl
+  other : (u : JointUnion) → c ≡ stageCode u stage → c ≢ 0 → c ≢ 1 → c ≢ 2 → c ≢ 3 → c ≢ 4 → c ≢ 5 → staged u (velocitiesOf a b) ≡ stageJoint u (j .base) h i a b stage
+  unfolding stageJoint stageCode warmStartJoint solveJoint
+  other u e n0 n1 n2 n3 n4 n5 = by u (eqb stage 0) refl e
+    where
+      by : (u : JointUnion) (b′ : Bool) → eqb stage 0 ≡ b′ → c ≡ stageCode u stage → staged u (velocitiesOf a b) ≡ stageJoint u (j .base) h i a b stage
+      by (Revolute r) true f e = absurd (n0 (rw f at e))
+      by (Spherical r) true f e = absurd (n1 (rw f at e))
+      by (Weld r) true f e = absurd (n2 (rw f at e))
+      by (Revolute r) false f e = absurd (n3 (rw f at e))
+      by (Spherical r) false f e = absurd (n4 (rw f at e))
+      by (Weld r) false f e = absurd (n5 (rw f at e))
+      by Other true f e = rw f
+      by Other false f e = rw f
 
   -- in the arm of no kind nothing is worked
-  pub worked-none : c ≡ caseOf (j .«union_») → c ≢ 0 → c ≢ 1 → c ≢ 2 → next ≡ t → v ≡ velocitiesOf a b → Worked t at d its-stage next v
-  worked-none e p q s n m =
-      let same = other (j .«union_») e p q s in
-      record {
-        stored = n ∙ ap (remade t (t .bodies)) (sym (set-getD (t .joints) at d)) ∙ ap (λ x. remade t (t .bodies) (set (t .joints) at (jointSim (j .base) (x .«union_»)))) (sym same);
-        moved = m ∙ ap (λ x. x .velocities) (sym same);
-      }
+  pub worked-none : c ≢ 0 → c ≢ 1 → c ≢ 2 → c ≢ 3 → c ≢ 4 → c ≢ 5 → next ≡ t → v ≡ velocitiesOf a b → Worked t at d its-stage next v
+  worked-none n0 n1 n2 n3 n4 n5 n m = unmoved _ (other (j .«union_») coded n0 n1 n2 n3 n4 n5) n m
 
 -- from what the code's calls gave, a turn is one call of the plain run
 pub turn-is : (t : Scene) (us ws : List BodyState) (slot stage at pa pb : ℕ) (d : JointSim) (e : BodyState) (na nb : BodyState) (r : Staged) (x : StepContext) (v : Velocities)
@@ -219,7 +266,7 @@ turn-is t us ws slot stage at pa pb d e na nb r x v₀ lb lj ew h ex ha hpa hpb 
 min-low : (k n : ℕ) → k < n → min k n ≡ k
 min-low k n h = omega arith
 
-pub fill-more : (bs o w : List BodyState) (k : ℕ) (d : BodyState) → w ≡ take k bs ++ drop k o → k < length bs → k < length o → set w k (getD bs k d) ≡ take (k + 1) bs ++ drop (k + 1) o
+pub fill-more {ℓ} : {A : Type ℓ} (bs o w : List A) (k : ℕ) (d : A) → w ≡ take k bs ++ drop k o → k < length bs → k < length o → set w k (getD bs k d) ≡ take (k + 1) bs ++ drop (k + 1) o
 fill-more bs o w k d e h g =
     let n : length (take k bs) ≡ k = length-take k bs ∙ min-low k (length bs) h in
     rw (e, add-one k, drop-cons o k d g, take-suc bs k d h) (set-at (take k bs) (getD o k d) (drop (suc k) o) (getD bs k d) k n ∙ sym (append-assoc (take k bs) (getD bs k d ∷ []) (drop (suc k) o)))

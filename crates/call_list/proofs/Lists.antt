@@ -2,29 +2,28 @@
 use mathlib.Core.Path.{_≡_, refl, sym, ap, subst, _∙_}
 use mathlib.Core.Logic.{_≢_}
 use mathlib.Core.Bool.{Bool, true, false, cond, _||_, _&&_}
-use mathlib.Core.List.{List, [], _∷_, _++_}
+use mathlib.Core.List.{List, [], _∷_, _++_, map, append-nil}
 use Prim.Native.Nat.{ℕ, zero, suc, _+_, _%_, _≤_, _<_}
 use native.Mathlib.Numerals.{add-one, add-two}
 use native.Mathlib.Omega.{arith}
 use lib.Dec.{eqb, ltb, leb}
-use lib.ListN.{length, getD, set, take, drop, length-drop, length-set}
-use lib.Seq.{drop-cons, take-at}
+use lib.ListN.{length, getD, set, take, drop, length-map, length-drop, length-set, replicate, length-replicate, List·getD-map}
+use lib.Seq.{drop-cons, take-at, take-all}
 use borrow.Author.Tests.{eq-eqb, ne-eqb, eqb-true, eqb-false, ltb-false, leb-false}
-use Rattle.solver.specs.declared.StepContext.{StepContext}
 use Rattle.records.specs.declared.body.BodyState.{BodyState}
 use Rattle.records.specs.declared.joint.JointSim.{JointSim}
 use Rattle.records.specs.Body.{identityBodyState}
 use Rattle.scene.specs.declared.Scene.{Scene}
 use Rattle.scene.specs.declared.Verdict.{Verdict}
-use Rattle.scene.specs.declared.Run.{Run}
 use Rattle.scene.specs.Reorder.{Every}
 use Rattle.records.specs.Joint.{unusedJoint}
-use Rattle.scene.specs.Calls.{Call, call, calls}
-use Rattle.scene.specs.Plain.{causeIn, cause, verdictOf, firstCause, earlyCause, verdict, Accepted, step, runCalls, sameVelocities, sameBelow, isStill, done, refused, plainRun}
+use Rattle.scene.specs.Calls.{call, calls}
+use Rattle.scene.specs.Plain.{jointCause, callCause, cause, verdictOf, firstCause, earlyCause, verdict, Accepted, step, runCalls, sameVelocities, sameBelow, isStill, done, refused, plainRun}
 use Rattle.scene.specs.Accepted.{run-accepted, run-refused}
 use Rattle.scene.specs.Counted.{accepted-slots}
+use Rattle.call_list.specs.Causes.{jointCauses}
 use Rattle.call_list.specs.Places.{jointPlace, withIdentity}
-use Rattle.call_list.proofs.Elements.{getD-any, joint-place-in, remade}
+use Rattle.call_list.proofs.Elements.{getD-any, joint-place-in, remade, fill-more}
 
 -- ---- the tests before the calls
 
@@ -97,21 +96,41 @@ module _ (l : List ℕ) (i : ℕ) where
     pub check-end : length l ≤ i → verdictOf 0 0 ≡ z
     check-end h = rw (calls-end h) at q
 
--- a call's cause, from the joint at its slot's place
-pub cause-is : (s : Scene) (slot stage at : ℕ) (d : JointSim) (c : ℕ) → length (s .joints) ≡ 32 → s .«joint_count» ≤ 32 → at ≡ jointPlace slot
-    → c ≡ causeIn (s .«body_count») (s .«joint_count») (getD (s .joints) at d .«union_») (call slot stage)
+-- a call's cause, from the table of its joints' causes
+pub cause-is : (s : Scene) (causes : List ℕ) (slot stage at d c : ℕ) → length (s .joints) ≡ 32 → s .«joint_count» ≤ 32 → causes ≡ jointCauses s → at ≡ jointPlace slot
+    → c ≡ callCause (s .«joint_count») (getD causes at d) (call slot stage)
     → c ≡ cause s (call slot stage)
-unfolding cause
-cause-is s slot stage at d c long low here e = e ∙ by (leb (s .«joint_count») slot) refl
+unfolding cause jointCauses
+cause-is s causes slot stage at d c long low table here e = e ∙ by (leb (s .«joint_count») slot) refl
   where
+    of : JointSim → ℕ
+    of joint = jointCause (s .«body_count») (joint .«union_»)
+
     by : (b : Bool) → leb (s .«joint_count») slot ≡ b
-        → causeIn (s .«body_count») (s .«joint_count») (getD (s .joints) at d .«union_») (call slot stage)
-        ≡ causeIn (s .«body_count») (s .«joint_count») (getD (s .joints) slot unusedJoint .«union_») (call slot stage)
+        → callCause (s .«joint_count») (getD causes at d) (call slot stage) ≡ callCause (s .«joint_count») (of (getD (s .joints) slot unusedJoint)) (call slot stage)
     by true f = rw f
     by false f =
         let h : slot < 32 = omega (arith, leb-false (s .«joint_count») slot f) in
-        let same : getD (s .joints) at d ≡ getD (s .joints) slot unusedJoint = rw (here ∙ joint-place-in slot h) (getD-any (s .joints) slot d unusedJoint (rw long h)) in
-        ap (λ (j : JointSim). causeIn (s .«body_count») (s .«joint_count») (j .«union_») (call slot stage)) same
+        let wide : slot < length (map of (s .joints)) = rw (length-map (s .joints) of, long) h in
+        let same : getD causes at d ≡ of (getD (s .joints) slot unusedJoint) = rw (table, here ∙ joint-place-in slot h) (getD-any (map of (s .joints)) slot d (of unusedJoint) wide ∙ List·getD-map of (s .joints) slot unusedJoint) in
+        ap (λ x. callCause (s .«joint_count») x (call slot stage)) same
+
+-- filling the table of causes
+pub causes-more : (s : Scene) (w : List ℕ) (k : ℕ) (d : JointSim) (c : ℕ) → length (s .joints) ≡ 32 → k < 32 → w ≡ take k (jointCauses s) ++ drop k (replicate 32 0)
+    → c ≡ jointCause (s .«body_count») (getD (s .joints) k d .«union_»)
+    → set w k c ≡ take (k + 1) (jointCauses s) ++ drop (k + 1) (replicate 32 0)
+unfolding jointCauses
+causes-more s w k d c long h e is =
+    let of : JointSim → ℕ = λ joint. jointCause (s .«body_count») (joint .«union_») in
+    let here : c ≡ getD (map of (s .joints)) k (of d) = is ∙ sym (List·getD-map of (s .joints) k d) in
+    rw here (fill-more (map of (s .joints)) (replicate 32 0) w k (of d) e (rw (length-map (s .joints) of, long) h) (rw (length-replicate {A = ℕ} 32 0) h))
+
+pub causes-all : (s : Scene) (w : List ℕ) (k : ℕ) → length (s .joints) ≡ 32 → k ≡ 32 → w ≡ take k (jointCauses s) ++ drop k (replicate 32 0) → w ≡ jointCauses s
+unfolding jointCauses
+causes-all s w k long e q =
+    let of : JointSim → ℕ = λ joint. jointCause (s .«body_count») (joint .«union_») in
+    let n : length (map of (s .joints)) ≤ 32 = rw (length-map (s .joints) of, long) (omega arith) in
+    q ∙ rw e (ap (λ l. l ++ []) (take-all 32 (map of (s .joints)) n) ∙ append-nil (map of (s .joints)))
 
 -- ---- the run's loop
 

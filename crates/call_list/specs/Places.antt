@@ -2,10 +2,11 @@
 use mathlib.Core.Bool.{cond}
 use mathlib.Core.List.{List, [], _∷_, _++_}
 use Prim.Native.Nat.{ℕ}
-use lib.Dec.{ltb}
+use lib.Dec.{eqb, ltb}
 use lib.IntN.{ℤ, pos, negsuc}
 use Rattle.records.specs.declared.body.BodyState.{BodyState}
 use Rattle.records.specs.declared.joint.JointUnion.{JointUnion}
+use Rattle.records.specs.declared.joint.JointUnion.the-variants.{Revolute, Spherical, Weld, Other}
 use Rattle.records.specs.Body.{identityBodyState}
 use Rattle.joint.specs.Index.{indexA, indexB}
 use Rattle.call_list.specs.declared.places.Places.{Places}
@@ -17,6 +18,13 @@ bodyPlace (negsuc n) = 32
 
 abbrev pub placesOf : JointUnion → Places
 placesOf union = record { a = bodyPlace (indexA union); b = bodyPlace (indexB union) }
+
+-- the stage of a kind in one number: a warm start's, a solve's, and 6 for the empty case
+unfoldable pub stageCode : JointUnion → ℕ → ℕ
+stageCode (Revolute j) stage = cond (eqb stage 0) 0 3
+stageCode (Spherical j) stage = cond (eqb stage 0) 1 4
+stageCode (Weld j) stage = cond (eqb stage 0) 2 5
+stageCode Other stage = 6
 
 -- a place among 32 joints
 unfoldable pub jointPlace : ℕ → ℕ

@@ -2,7 +2,8 @@
 ghost use mathlib.Core.Path.{_≡_};
 ghost use Rattle.scene.specs.Calls.{call};
 ghost use Rattle.joint.specs.Index.{isOther};
-ghost use Rattle.scene.specs.Plain.{causeIn, earlyCause, verdict};
+ghost use Rattle.scene.specs.Plain.{jointCause, callCause, earlyCause, verdict};
+ghost use Rattle.call_list.specs.Causes.{jointCauses};
 use crate::places::joint_place;
 use joint::index::index_cause;
 use records::joint::JointUnion;
@@ -20,9 +21,35 @@ pub fn is_other(union_: JointUnion) -> bool
     }
 }
 
-// The first cause of a call's refusal, or 0. `union_` is that of the slot's joint.
-pub fn cause_of(body_count: u32, joint_count: u32, union_: JointUnion, slot: u8, stage: u8) -> u32
-    ensures { λ r. ⌜ r ≡ causeIn «body_count» «joint_count» «union_» (call slot stage) ⌝ }
+// The causes of a refusal that only the joint decides: 1, 2, 3, or 0.
+pub fn joint_cause(body_count: u32, union_: JointUnion) -> u32
+    ensures { λ r. ⌜ r ≡ jointCause «body_count» «union_» ⌝ }
+{
+    if is_other(union_) {
+        return 1;
+    }
+    index_cause(body_count as usize, union_)
+}
+
+// The causes of each joint, found once for all its calls.
+pub fn joint_causes(scene: Scene) -> [u32; 32]
+    ensures { λ r. ⌜ r ≡ jointCauses scene ⌝ }
+{
+    let mut causes = [0u32; 32];
+    let mut k: usize = 0;
+    while k < 32 {
+        let joint = scene.joints[k];
+        let union_ = joint.union_;
+        let cause = joint_cause(scene.body_count, union_);
+        causes[k] = cause;
+        k += 1;
+    }
+    causes
+}
+
+// The first cause of a call's refusal, or 0. `of_joint` is that of the slot's joint.
+pub fn call_cause(joint_count: u32, of_joint: u32, slot: u8, stage: u8) -> u32
+    ensures { λ r. ⌜ r ≡ callCause «joint_count» «of_joint» (call slot stage) ⌝ }
 {
     if joint_count <= slot as u32 {
         return 4;
@@ -30,10 +57,7 @@ pub fn cause_of(body_count: u32, joint_count: u32, union_: JointUnion, slot: u8,
     if 2 < stage {
         return 5;
     }
-    if is_other(union_) {
-        return 1;
-    }
-    index_cause(body_count as usize, union_)
+    of_joint
 }
 
 // The cause of a refusal before any call is looked at, or 0.
@@ -67,20 +91,14 @@ pub fn check_list(scene: Scene, list: &[u8]) -> Verdict
             place: 0,
         };
     }
+    let causes = joint_causes(scene);
     let mut i: usize = 0;
     let mut place: u32 = 0;
     while i < n {
         let slot = list[i];
         let at = joint_place(slot);
-        let joint = scene.joints[at];
-        let union_ = joint.union_;
-        let cause = cause_of(
-            scene.body_count,
-            scene.joint_count,
-            union_,
-            slot,
-            list[i + 1],
-        );
+        let of_joint = causes[at];
+        let cause = call_cause(scene.joint_count, of_joint, slot, list[i + 1]);
         if cause != 0 {
             return Verdict {
                 number: cause,

@@ -6,17 +6,20 @@ ghost use Rattle.scene.specs.Plain.{Accepted, runCalls, sameBelow, plainRun};
 use crate::check::check_list;
 use crate::places::joint_place;
 use crate::places::places_of;
+use crate::places::stage_code;
 use crate::places::with_identity;
 use crate::places::without_identity;
 use crate::still::same_velocities;
 use constraint::velocity::velocities_of;
-use joint::index::case_of;
-use joint::stage::stage_as_revolute;
-use joint::stage::stage_as_spherical;
-use joint::stage::stage_as_weld;
+use joint::stage::solve_as_revolute;
+use joint::stage::solve_as_spherical;
+use joint::stage::solve_as_weld;
+use joint::stage::staged_joint;
+use joint::stage::warm_start_as_revolute;
+use joint::stage::warm_start_as_spherical;
+use joint::stage::warm_start_as_weld;
 use records::body::BodyState;
 use records::body::store_velocities;
-use records::joint::JointSim;
 use scene::Run;
 use scene::Scene;
 
@@ -40,50 +43,59 @@ fn run_calls(scene: Scene, list: &[u8]) -> Scene
     while i < list.len() {
         let slot = joint_place(list[i]);
         let stage = list[i + 1];
+        let use_bias = stage == 1;
         let named = next.joints[slot];
-        let named_union = named.union_;
-        let places = places_of(named_union);
+        let places = places_of(named);
         let place_a = places.a;
         let place_b = places.b;
         let a = bodies[place_a];
         let b = bodies[place_b];
         let mut v = velocities_of(a, b);
-        // each kind reads and stores the joint by itself, so that only what it changes is written
-        match case_of(named_union) {
+        // the joint is read again in each arm, so that only what its stage needs is loaded, and stored
+        // there by a solve, so that only what the solve changes is written
+        match stage_code(named, stage) {
             0 => {
                 let joint = next.joints[slot];
-                let base = joint.base;
-                let union_ = joint.union_;
-                let s = stage_as_revolute(base, union_, h, inv_h, a, b, stage);
-                let left = s.union_;
-                next.joints[slot] = JointSim { base, union_: left };
-                v = s.velocities;
+                v = warm_start_as_revolute(joint, a, b);
             }
             1 => {
                 let joint = next.joints[slot];
-                let base = joint.base;
-                let union_ = joint.union_;
-                let s = stage_as_spherical(base, union_, h, inv_h, a, b, stage);
-                let left = s.union_;
-                next.joints[slot] = JointSim { base, union_: left };
-                v = s.velocities;
+                v = warm_start_as_spherical(joint, a, b);
             }
             2 => {
                 let joint = next.joints[slot];
-                let base = joint.base;
-                let union_ = joint.union_;
-                let s = stage_as_weld(base, union_, h, inv_h, a, b, stage);
-                let left = s.union_;
-                next.joints[slot] = JointSim { base, union_: left };
+                v = warm_start_as_weld(joint, a, b);
+            }
+            3 => {
+                let joint = next.joints[slot];
+                let s = solve_as_revolute(joint, h, inv_h, a, b, use_bias);
+                let left = staged_joint(joint, s);
+                next.joints[slot] = left;
+                v = s.velocities;
+            }
+            4 => {
+                let joint = next.joints[slot];
+                let s = solve_as_spherical(joint, h, inv_h, a, b, use_bias);
+                let left = staged_joint(joint, s);
+                next.joints[slot] = left;
+                v = s.velocities;
+            }
+            5 => {
+                let joint = next.joints[slot];
+                let s = solve_as_weld(joint, h, inv_h, a, b, use_bias);
+                let left = staged_joint(joint, s);
+                next.joints[slot] = left;
                 v = s.velocities;
             }
             _ => {}
         }
-        let stored_a = store_velocities(a, v.v_a, v.w_a);
+        // both are read again: A, so that it need not be kept through the stage, and B, since both
+        // indices may name one body
+        let again_a = bodies[place_a];
+        let stored_a = store_velocities(again_a, v.v_a, v.w_a);
         bodies[place_a] = stored_a;
-        // read again: both indices may name one body
-        let again = bodies[place_b];
-        let stored_b = store_velocities(again, v.v_b, v.w_b);
+        let again_b = bodies[place_b];
+        let stored_b = store_velocities(again_b, v.v_b, v.w_b);
         bodies[place_b] = stored_b;
         i += 2;
     }

@@ -6,6 +6,7 @@ ghost use Rattle.call_list.specs.Places as D;
 use joint::index::indices_of;
 use records::body::BodyState;
 use records::body::IDENTITY_BODY_STATE;
+use records::joint::JointSim;
 use records::joint::JointUnion;
 
 // The places of a joint's two bodies in an array that ends with the identity state.
@@ -25,13 +26,29 @@ pub fn body_place(index: i32) -> usize
     if index < 32 { index as usize } else { 32 }
 }
 
-pub fn places_of(union_: JointUnion) -> Places
-    ensures { λ r. ⌜ (r .a < 33) × (r .b < 33) × (r ≡ D.placesOf «union_») ⌝ }
+pub fn places_of(joint: JointSim) -> Places
+    ensures { λ r. ⌜ (r .a < 33) × (r .b < 33) × (r ≡ D.placesOf (joint .«union_»)) ⌝ }
 {
+    let union_ = joint.union_;
     let i = indices_of(union_);
     Places {
         a: body_place(i.a),
         b: body_place(i.b),
+    }
+}
+
+// Which stage of which kind a call is, in one number: for a warm start that of the joint's case, for a
+// solve three more, and 6 for the empty case.
+pub fn stage_code(joint: JointSim, stage: u8) -> u8
+    ensures { λ r. ⌜ r ≡ D.stageCode (joint .«union_») stage ⌝ }
+{
+    let warm = stage == 0;
+    let union_ = joint.union_;
+    match union_ {
+        JointUnion::Revolute(_) => if warm { 0 } else { 3 },
+        JointUnion::Spherical(_) => if warm { 1 } else { 4 },
+        JointUnion::Weld(_) => if warm { 2 } else { 5 },
+        JointUnion::Other => 6,
     }
 }
 

@@ -1,7 +1,6 @@
 -- The velocities that the rows change, the inverse masses that they multiply by, and how a row's impulse changes the velocities. Definitions only. Assumes nothing.
 use lib.Ieee.{Float}
 use Rattle.math_functions.specs.declared.types.Vec3.{Vec3}
-use Rattle.math_functions.specs.declared.types.Matrix3.{Matrix3}
 use Rattle.math_functions.specs.Vector.{add, sub, cross, mulAdd, mulSub}
 use Rattle.math_functions.specs.Matrix.{mulMv}
 use Rattle.records.specs.declared.body.BodyState.{BodyState}

@@ -43,7 +43,7 @@ pub fn is_worked(enabled: bool, fixed_rotation: bool) -> bool
     enabled && !fixed_rotation
 }
 
-// A lower limit: the impulse pushes B about the axis, and never pulls.
+// A lower limit: its accumulated impulse turns B up about the axis, and is never below zero.
 pub fn lower_limit_row(
     s: SoftBias,
     mass: f32,

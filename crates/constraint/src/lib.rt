@@ -1,4 +1,5 @@
-// What the constraint rows of the three joint kinds share, where the Rust's text is the same.
+// What the rows of the three joint kinds share, and, side by side, the pieces in which the Rust's text
+// differs.
 pub mod angular;
 pub mod answer;
 pub mod point;

@@ -33,7 +33,7 @@ pub fn point_bias(
 }
 
 // The matrix with a mass added on its diagonal, which makes the matrix of a point row:
-// K = [(1/m1 + 1/m2) * eye(2) - skew(r1) * invI1 * skew(r1) - skew(r2) * invI2 * skew(r2)]
+// K = [(1/m1 + 1/m2) * eye(3) - skew(r1) * invI1 * skew(r1) - skew(r2) * invI2 * skew(r2)]
 pub fn add_mass(k: Matrix3, mass: f32) -> Matrix3
     ensures { λ r. ⌜ r ≡ D.addMass k mass ⌝ }
 {

@@ -108,7 +108,7 @@ pub fn soft_impulse(s: SoftBias, mass: f32, cdot: f32, old_impulse: f32) -> f32
     -s.mass_scale * mass * (cdot + s.bias) - s.impulse_scale * old_impulse
 }
 
-// The impulse of a limit after its row: it pushes and never pulls, and a NaN is dropped.
+// The impulse of a limit after its row: never below zero, and a NaN is dropped.
 pub fn limit_impulse(s: SoftBias, mass: f32, cdot: f32, old_impulse: f32) -> f32
     ensures { λ r. ⌜ r ≡ D.limitImpulse s mass cdot «old_impulse» ⌝ }
 {

@@ -2,10 +2,10 @@ pub mod Again
 pub mod Lent
 pub mod Pure
 pub mod Rows
+pub mod Pieces
 pub mod Calls
-pub mod DirectWalk
-pub mod Thin
-pub mod ThinWarmStart
-pub mod ThinSolve
+pub mod Stages
 pub mod Signs
 pub mod Planned
+pub mod WarmStart
+pub mod Solve

@@ -1,96 +1,130 @@
 -- The steps of the code do what a direct call is defined to do. Assumes nothing.
---     finish       what the steps leave.        planned      it is the outcome
-use mathlib.Core.Path.{_≡_, refl, ap, _∙_}
-use mathlib.Core.Bool.{Bool, true, false, cond}
+--     turned-away      a call that is refused.        warm-started, solved      one that is not: what its steps leave is the outcome.        write-long      as many states
+use mathlib.Core.Path.{_≡_, refl, sym, ap, ap₂, _∙_}
+use mathlib.Core.Bool.{Bool, true, false, cond, not, false≢true}
 use mathlib.Core.List.{List}
 use Prim.Native.Nat.{ℕ}
 use native.Mathlib.Nat.{le-refl}
 use native.Mathlib.Omega.{arith}
-use lib.Dec.{eqb}
+use lib.Dec.{T, eqb}
+use lib.Ieee.{Float}
 use lib.IntN.{ℤ, pos, negsuc}
-use lib.ListN.{length, getD, set, List·getD-eq-default}
+use lib.ListN.{length, length-set, getD, List·getD-eq-default}
 use lib.Seq.{set-out}
-use borrow.Author.Tests.{eqb-true}
+use borrow.Author.Tests.{eq-eqb, eqb-true}
 use Rattle.math_functions.specs.declared.types.Vec3.{Vec3}
+use Rattle.solver.specs.declared.StepContext.{StepContext}
 use Rattle.records.specs.declared.body.BodyState.{BodyState}
+use Rattle.records.specs.declared.joint.JointBase.{JointBase}
 use Rattle.records.specs.declared.joint.JointSim.{JointSim}
-use Rattle.records.specs.Body.{storeVelocities, identityBodyState}
+use Rattle.records.specs.declared.joint.JointUnion.{JointUnion}
+use Rattle.records.specs.declared.joint.JointUnion.the-variants.{Revolute, Spherical, Weld, Other}
+use Rattle.records.specs.Body.{identityBodyState}
+use Rattle.constraint.specs.declared.velocity.Velocities.{Velocities}
 use Rattle.constraint.specs.Answer.{jointSim}
 use Rattle.joint.specs.declared.stage.Staged.{Staged}
-use Rattle.joint.specs.Stage.{stageJoint}
-use Rattle.joint.specs.Store.{statePair}
-use Rattle.joint.specs.Index.{indexA, indexB}
+use Rattle.joint.specs.Stage.{staged, stageJoint, warmStartAs, solveAs}
+use Rattle.joint.specs.Index.{caseOf, indexA, indexB, indexCause}
 use Rattle.scene.specs.Scene.{stateAt, store}
 use Rattle.scene.specs.Plain.{storeBoth}
 use Rattle.direct.specs.declared.call.Call.{Call}
 use Rattle.direct.specs.declared.places.Places.{Places}
-use Rattle.direct.specs.declared.work.Worked.{Worked}
-use Rattle.direct.specs.Direct.{cause, Outcome, answerOf, refused, done, stageAt, directCall}
-use Rattle.direct.specs.Stored.{read-first, store-long}
-use Rattle.direct.specs.Steps.{placeOf, placesAt, placesOf, workedBy, workCall, readStates, writeStates}
+use Rattle.direct.specs.Direct.{isOfKind, cause, Outcome, refused, warmStart, solve, stageAt, directCall}
+use Rattle.direct.specs.Stored.{store-long}
+use Rattle.direct.specs.Steps.{placeOf, placesOf, readStates, storeAt, writeStates}
 
-abbrev pub finish : Places → Worked → List BodyState → Outcome
-finish p w states = record { answer = p .answer; joint = w .joint; states = writeStates p (w .pair) states }
+-- ---- what a test of the number says
+
+fails : (t : Bool) → T (not t) → t ≡ false
+fails true h = absurd h
+fails false h = refl
+
+zero-of : (m : ℕ) → T (not (not (eqb m 0))) → m ≡ 0
+zero-of m = by (eqb m 0) refl
+  where
+    by : (t : Bool) → eqb m 0 ≡ t → T (not (not t)) → m ≡ 0
+    by true e h = eqb-true m 0 e
+    by false e h = absurd h
 
 -- ---- places
-
--- at the length nothing is stored
-out : (s : List BodyState) (n : ℕ) → length s ≡ n → (x : BodyState) → set s n x ≡ s
-out s n e x = set-out s n x (omega (arith, e))
 
 reads : (s : List BodyState) (i : ℤ) → getD s (placeOf (length s) i) identityBodyState ≡ stateAt s i
 reads s (pos k) = refl
 reads s (negsuc k) = List·getD-eq-default s identityBodyState (le-refl (length s))
 
-writes : (s : List BodyState) (n : ℕ) → length s ≡ n → (i : ℤ) (v w : Vec3) → set s (placeOf n i) (storeVelocities (stateAt s i) v w) ≡ store s i v w
+-- at the length nothing is stored
+writes : (s : List BodyState) (n : ℕ) → length s ≡ n → (i : ℤ) (v w : Vec3) → storeAt (placeOf n i) v w s ≡ store s i v w
 unfolding store
 writes s n e (pos k) v w = refl
-writes s n e (negsuc k) v w = out s n e _
+writes s n e (negsuc k) v w = set-out s n _ (omega (arith, e))
+
+pub write-long : (p : Places) (v : Velocities) (s : List BodyState) → length (writeStates p v s) ≡ length s
+write-long p v s = length-set (storeAt (p .a) (v .«v_a») (v .«w_a») s) (p .b) _ ∙ length-set s (p .a) _
+
+-- ---- kinds
+
+-- a call of a kind that finds no cause is on a joint of that kind
+is-kind : (kind n : ℕ) (u : JointUnion) → cause kind u n ≡ 0 → eqb (caseOf u) kind ≡ true
+unfolding cause
+is-kind kind n u = by u (isOfKind kind u) refl
+  where
+    by : (u : JointUnion) (t : Bool) → isOfKind kind u ≡ t → cond t (indexCause n u) 1 ≡ 0 → eqb (caseOf u) kind ≡ true
+    by u false e h = absurd (omega arith)
+    by (Revolute r) true e h = eq-eqb _ _ (sym (eqb-true kind 0 e))
+    by (Spherical r) true e h = eq-eqb _ _ (sym (eqb-true kind 1 e))
+    by (Weld r) true e h = eq-eqb _ _ (sym (eqb-true kind 2 e))
+    by Other true e h = absurd (false≢true e)
+
+warm-as : (kind : ℕ) (u : JointUnion) (base : JointBase) (a b : BodyState) → eqb (caseOf u) kind ≡ true → stageJoint u base (warmStart kind .h) (warmStart kind .«inv_h») a b 0 ≡ staged u (warmStartAs kind u base a b)
+unfolding stageJoint warmStartAs
+warm-as kind u base a b e = rw e
+
+solve-as : (kind : ℕ) (u : JointUnion) (base : JointBase) (h invH : Float) (a b : BodyState) (useBias : Bool) → eqb (caseOf u) kind ≡ true → stageJoint u base h invH a b (cond useBias 1 2) ≡ solveAs kind u base h invH a b useBias
+unfolding stageJoint solveAs
+solve-as kind u base h invH a b true e = rw e
+solve-as kind u base h invH a b false e = rw e
 
 -- ---- the whole call
 
-module _ (call : Call) (joint : JointSim) (s : List BodyState) where
-  abbrev n : ℕ
-  n = length s
+module _ (joint : JointSim) (s : List BodyState) (kind : ℕ) where
+  abbrev u : JointUnion
+  u = joint .«union_»
 
-  abbrev a : ℤ
-  a = indexA (joint .«union_»)
+  abbrev number : ℕ
+  number = cause kind u (length s)
 
-  abbrev b : ℤ
-  b = indexB (joint .«union_»)
+  abbrev p : Places
+  p = placesOf kind joint (length s)
 
-  -- the stage on any two states
-  abbrev stageOn : BodyState → BodyState → Staged
-  stageOn x y = stageJoint (joint .«union_») (joint .base) (call .h) (call .«inv_h») x y (call .stage)
+  stored : (v : Velocities) → writeStates p v s ≡ storeBoth s u v
+  stored v =
+      ap (storeAt (p .b) (v .«v_b») (v .«w_b»)) (writes s (length s) refl (indexA u) (v .«v_a») (v .«w_a»))
+      ∙ writes (store s (indexA u) (v .«v_a») (v .«w_a»)) (length s) (store-long s (indexA u) (v .«v_a») (v .«w_a»)) (indexB u) (v .«v_b») (v .«w_b»)
 
-  stored : (r : Staged) → writeStates (placesAt 0 (placeOf n a) (placeOf n b)) (workedBy joint (statePair (stateAt s a) (stateAt s b)) r .pair) s ≡ storeBoth s (joint .«union_») (r .velocities)
-  stored r =
-      let v = r .velocities in
-      let one = store s a (v .«v_a») (v .«w_a») in
-      ap (λ l. set l (placeOf n b) (storeVelocities (stateAt s b) (v .«v_b») (v .«w_b»))) (writes s n refl a (v .«v_a») (v .«w_a»))
-      ∙ ap (set one (placeOf n b)) (read-first s a b (v .«v_a») (v .«w_a») (v .«v_b») (v .«w_b»))
-      ∙ writes one n (store-long s a (v .«v_a») (v .«w_a»)) b (v .«v_b») (v .«w_b»)
+  -- what the steps leave, of a stage's result
+  abbrev pub leaves : Staged → Outcome
+  leaves r = record { answer = p .answer; joint = jointSim (joint .base) (r .«union_»); states = writeStates p (r .velocities) s }
 
-  steps : Places → Outcome
-  steps p = finish p (workCall call p joint (readStates p s)) s
+  pub turned-away : (call : Call) → call .kind ≡ kind → T (not (eqb number 0)) → refused number joint s ≡ directCall call joint s
+  unfolding directCall
+  turned-away call e h = rw (e, fails (eqb number 0) h)
 
-  accepted : (k : ℕ) → k ≡ 0 → steps (placesAt k (placeOf n a) (placeOf n b)) ≡ done joint s (stageAt call joint s)
-  unfolding workCall steps
-  accepted k e =
-      rw (e, reads s a, reads s b)
-      (ap (λ l. record { answer = answerOf 0; joint = jointSim (joint .base) (stageAt call joint s .«union_»); states = l }) (stored (stageAt call joint s)))
+  worked : (call : Call) → call .kind ≡ kind → number ≡ 0 → leaves (stageAt call joint s) ≡ directCall call joint s
+  unfolding directCall
+  worked call k e = rw (k, e, stored (stageAt call joint s .velocities))
 
-  turned-away : (k : ℕ) → eqb k 0 ≡ false → steps (placesAt k n n) ≡ refused k joint s
-  unfolding workCall steps
-  turned-away k e =
-      rw e (ap (λ l. record { answer = answerOf k; joint = joint; states = l }) (ap (λ l. set l n (getD s n identityBodyState)) (out s n refl _) ∙ out s n refl _))
+  -- a stage that is the call's on the two states at the joint's indices
+  by-stage : (call : Call) → call .kind ≡ kind → (on : BodyState → BodyState → Staged) → T (not (not (eqb number 0))) → (eqb (caseOf u) kind ≡ true → stageAt call joint s ≡ on (stateAt s (indexA u)) (stateAt s (indexB u)))
+      → let ab = readStates p s in leaves (on (ab .«state_a») (ab .«state_b»)) ≡ directCall call joint s
+  by-stage call k on h is =
+      let e = zero-of number h in
+      ap leaves (ap₂ on (reads s (indexA u)) (reads s (indexB u)) ∙ sym (is (is-kind kind (length s) u e))) ∙ worked call k e
 
-  pub planned : finish (placesOf call joint n) (workCall call (placesOf call joint n) joint (readStates (placesOf call joint n) s)) s ≡ directCall call joint s
-  unfolding placesOf directCall steps
-  planned = by (eqb (cause (call .kind) (joint .«union_») n) 0) refl
-    where
-      by : (t : Bool) → eqb (cause (call .kind) (joint .«union_») n) 0 ≡ t
-          → steps (cond t (placesAt (cause (call .kind) (joint .«union_») n) (placeOf n a) (placeOf n b)) (placesAt (cause (call .kind) (joint .«union_») n) n n))
-          ≡ cond t (done joint s (stageAt call joint s)) (refused (cause (call .kind) (joint .«union_») n) joint s)
-      by true e = accepted _ (eqb-true _ 0 e)
-      by false e = turned-away _ e
+  pub warm-started : T (not (not (eqb number 0))) → let ab = readStates p s in leaves (staged u (warmStartAs kind u (joint .base) (ab .«state_a») (ab .«state_b»))) ≡ directCall (warmStart kind) joint s
+  warm-started h = by-stage (warmStart kind) refl (λ a b. staged u (warmStartAs kind u (joint .base) a b)) h (warm-as kind u (joint .base) (stateAt s (indexA u)) (stateAt s (indexB u)))
+
+  pub solved : (context : StepContext) (useBias : Bool) → T (not (not (eqb number 0)))
+      → let ab = readStates p s in leaves (solveAs kind u (joint .base) (context .h) (context .«inv_h») (ab .«state_a») (ab .«state_b») useBias) ≡ directCall (solve kind context useBias) joint s
+  solved context useBias h =
+      by-stage (solve kind context useBias) refl (λ a b. solveAs kind u (joint .base) (context .h) (context .«inv_h») a b useBias) h
+      (solve-as kind u (joint .base) (context .h) (context .«inv_h») (stateAt s (indexA u)) (stateAt s (indexB u)) useBias)

@@ -72,6 +72,10 @@ pub record OnlyChanges (joint : JointSim) (states : List BodyState) (after : Out
 abbrev pub Changes : Type 0
 Changes = (call : Call) (joint : JointSim) (states : List BodyState) → OnlyChanges joint states (directCall call joint states)
 
+-- A warm start leaves the joint as it was, whatever its kind.
+abbrev pub WarmStartKeeps : Type 0
+WarmStartKeeps = (kind : ℕ) (joint : JointSim) (states : List BodyState) → directCall (warmStart kind) joint states .joint ≡ joint
+
 -- ==== Two states stored by value
 
 -- both indices name one body

@@ -23,7 +23,7 @@ use Rattle.records.specs.Body.{storeVelocities, identityBodyState}
 use Rattle.records.specs.Joint.{unusedJoint}
 use Rattle.constraint.specs.Answer.{jointSim}
 use Rattle.joint.specs.declared.stage.Staged.{Staged}
-use Rattle.joint.specs.Stage.{stageRevolute, stageSpherical, stageWeld, stageJoint}
+use Rattle.joint.specs.Stage.{stageJoint}
 use Rattle.joint.specs.Index.{isOther, indexA, indexB, badIndex, indexCause}
 use Rattle.scene.specs.declared.Scene.{Scene}
 use Rattle.scene.specs.Scene.{jointAt, stateAt, store}
@@ -83,11 +83,8 @@ kind-then false rest e = absurd (omega arith)
 
 -- a warm start reads no step context
 no-context : (u : JointUnion) (base : JointBase) (h i h′ i′ : Float) (a b : BodyState) → stageJoint u base h i a b 0 ≡ stageJoint u base h′ i′ a b 0
-unfolding stageJoint stageRevolute stageSpherical stageWeld
-no-context (Revolute r) base h i h′ i′ a b = refl
-no-context (Spherical r) base h i h′ i′ a b = refl
-no-context (Weld r) base h i h′ i′ a b = refl
-no-context Other base h i h′ i′ a b = refl
+unfolding stageJoint
+no-context u base h i h′ i′ a b = refl
 
 same-stage : (kind stage : ℕ) (x : StepContext) (u : JointUnion) (base : JointBase) (a b : BodyState) → stage ≤ 2
     → stageJoint u base (x .h) (x .«inv_h») a b stage ≡ stageJoint u base (callOf kind stage x .h) (callOf kind stage x .«inv_h») a b (callOf kind stage x .stage)

@@ -17,14 +17,14 @@ use Rattle.joint.specs.Index.{caseOf, indexA, indexB, badIndex}
 use Rattle.scene.specs.Scene.{stateAt, store}
 use Rattle.scene.specs.Plain.{verdictOf, storeBoth}
 use Rattle.scene.specs.Claims.{LimitsPush}
-use Rattle.scene.specs.Stages.{stage-keeps, solve-limits}
+use Rattle.scene.specs.Stages.{stage-keeps, warm-keeps, solve-limits}
 use Rattle.scene.specs.Stores.{both-rest}
 use Rattle.scene.specs.Framed.{only-impulses}
 use Rattle.scene.specs.Changes.{not-stored, only-velocities}
 use Rattle.scene.specs.Accepted.{Says, says-other, says-index, Answers, answers-nil, answers-test, answers-numbers, answers-none}
 use Rattle.direct.specs.declared.call.Call.{Call}
-use Rattle.direct.specs.Direct.{isOfKind, cause, Outcome, answerOf, refused, done, stageAt, directCall, solve}
-use Rattle.direct.specs.Claims.{Cause1, tests, Numbers, Acceptance, Refusal, OnlyChanges, Changes, PairStored, OneCall, Limits}
+use Rattle.direct.specs.Direct.{isOfKind, cause, Outcome, answerOf, refused, done, stageAt, directCall, warmStart, solve}
+use Rattle.direct.specs.Claims.{Cause1, tests, Numbers, Acceptance, Refusal, OnlyChanges, Changes, WarmStartKeeps, PairStored, OneCall, Limits}
 use Rattle.direct.specs.Stored.{store-long, pair-at}
 use Rattle.direct.specs.OneCall.{same-end}
 
@@ -128,6 +128,12 @@ changes call joint states = by-outcome call joint states (OnlyChanges joint stat
           velocities = λ n. record { delta-position = refl; delta-rotation = refl; flags = refl };
           state-kept = λ n h. refl;
         }
+
+pub warm-start-keeps : WarmStartKeeps
+warm-start-keeps kind joint states =
+    by-outcome (warmStart kind) joint states (λ after. after .joint ≡ joint)
+    (ap (jointSim (joint .base)) (warm-keeps (joint .base) _ _ _ _ 0 (joint .«union_») refl))
+    (λ ne. refl)
 
 -- ---- stores
 

@@ -1,14 +1,18 @@
-// The direct calls: a joint that is lent to be changed in place, and body states in a lent slice.
-// They are thin: the stage is the by-value core's.
+// The direct calls: a joint that is lent to be changed in place, and body states in a lent slice. Each
+// makes its tests, works the stage of its own kind on copies, and stores what the stage changed. One that
+// is refused stores nothing.
 ghost use mathlib.Core.Path.{_≡_};
 ghost use Rattle.direct.specs.Direct as D;
-use crate::call::Call;
-use crate::call::solve_call;
-use crate::call::warm_start_call;
 use crate::places::find_places;
 use crate::states::read_states;
 use crate::states::write_states;
-use crate::work::work_call;
+use joint::stage::solve_as_revolute;
+use joint::stage::solve_as_spherical;
+use joint::stage::solve_as_weld;
+use joint::stage::staged_joint;
+use joint::stage::warm_start_as_revolute;
+use joint::stage::warm_start_as_spherical;
+use joint::stage::warm_start_as_weld;
 use records::body::BodyState;
 use records::joint::JointSim;
 use solver::StepContext;
@@ -16,7 +20,6 @@ use solver::StepContext;
 mod call;
 mod places;
 mod states;
-mod work;
 
 // What a direct call answers: a number, which is 0 where the work was done, and place 0.
 pub struct Answer {
@@ -24,40 +27,46 @@ pub struct Answer {
     pub place: u32,
 }
 
-// One call, whatever its kind and its stage. Where it is refused, the joint is stored as it was, and
-// no state is stored.
-fn direct_call(joint: &mut JointSim, states: &mut [BodyState], call: Call) -> Answer
-    ensures { λ r. ⌜ D.Leaves (D.directCall call (now (joint .entry)) (now (states .entry))) r (now (joint .exit)) (now (states .exit)) ⌝ }
-{
-    let j = *joint;
-    let n = states.len();
-    let places = find_places(call, j, n);
-    let pair = read_states(states, places);
-    let worked = work_call(call, places, j, pair);
-    *joint = worked.joint;
-    write_states(states, places, worked.pair);
-    places.answer
-}
-
 pub fn warm_start_revolute_joint(joint: &mut JointSim, states: &mut [BodyState]) -> Answer
     ensures { λ r. ⌜ D.Leaves (D.directCall (D.warmStart D.revolute) (now (joint .entry)) (now (states .entry))) r (now (joint .exit)) (now (states .exit)) ⌝ }
 {
-    let call = warm_start_call(0);
-    direct_call(joint, states, call)
+    let n = states.len();
+    let places = find_places(0, *joint, n);
+    if places.answer.number != 0 {
+        return places.answer;
+    }
+    let pair = read_states(states, places);
+    let v = warm_start_as_revolute(*joint, pair.state_a, pair.state_b);
+    write_states(states, places, v);
+    places.answer
 }
 
 pub fn warm_start_spherical_joint(joint: &mut JointSim, states: &mut [BodyState]) -> Answer
     ensures { λ r. ⌜ D.Leaves (D.directCall (D.warmStart D.spherical) (now (joint .entry)) (now (states .entry))) r (now (joint .exit)) (now (states .exit)) ⌝ }
 {
-    let call = warm_start_call(1);
-    direct_call(joint, states, call)
+    let n = states.len();
+    let places = find_places(1, *joint, n);
+    if places.answer.number != 0 {
+        return places.answer;
+    }
+    let pair = read_states(states, places);
+    let v = warm_start_as_spherical(*joint, pair.state_a, pair.state_b);
+    write_states(states, places, v);
+    places.answer
 }
 
 pub fn warm_start_weld_joint(joint: &mut JointSim, states: &mut [BodyState]) -> Answer
     ensures { λ r. ⌜ D.Leaves (D.directCall (D.warmStart D.weld) (now (joint .entry)) (now (states .entry))) r (now (joint .exit)) (now (states .exit)) ⌝ }
 {
-    let call = warm_start_call(2);
-    direct_call(joint, states, call)
+    let n = states.len();
+    let places = find_places(2, *joint, n);
+    if places.answer.number != 0 {
+        return places.answer;
+    }
+    let pair = read_states(states, places);
+    let v = warm_start_as_weld(*joint, pair.state_a, pair.state_b);
+    write_states(states, places, v);
+    places.answer
 }
 
 pub fn solve_revolute_joint(
@@ -68,8 +77,23 @@ pub fn solve_revolute_joint(
 ) -> Answer
     ensures { λ r. ⌜ D.Leaves (D.directCall (D.solve D.revolute context «use_bias») (now (joint .entry)) (now (states .entry))) r (now (joint .exit)) (now (states .exit)) ⌝ }
 {
-    let call = solve_call(0, context, use_bias);
-    direct_call(joint, states, call)
+    let n = states.len();
+    let places = find_places(0, *joint, n);
+    if places.answer.number != 0 {
+        return places.answer;
+    }
+    let pair = read_states(states, places);
+    let s = solve_as_revolute(
+        *joint,
+        context.h,
+        context.inv_h,
+        pair.state_a,
+        pair.state_b,
+        use_bias,
+    );
+    *joint = staged_joint(*joint, s);
+    write_states(states, places, s.velocities);
+    places.answer
 }
 
 pub fn solve_spherical_joint(
@@ -80,8 +104,23 @@ pub fn solve_spherical_joint(
 ) -> Answer
     ensures { λ r. ⌜ D.Leaves (D.directCall (D.solve D.spherical context «use_bias») (now (joint .entry)) (now (states .entry))) r (now (joint .exit)) (now (states .exit)) ⌝ }
 {
-    let call = solve_call(1, context, use_bias);
-    direct_call(joint, states, call)
+    let n = states.len();
+    let places = find_places(1, *joint, n);
+    if places.answer.number != 0 {
+        return places.answer;
+    }
+    let pair = read_states(states, places);
+    let s = solve_as_spherical(
+        *joint,
+        context.h,
+        context.inv_h,
+        pair.state_a,
+        pair.state_b,
+        use_bias,
+    );
+    *joint = staged_joint(*joint, s);
+    write_states(states, places, s.velocities);
+    places.answer
 }
 
 pub fn solve_weld_joint(
@@ -92,6 +131,21 @@ pub fn solve_weld_joint(
 ) -> Answer
     ensures { λ r. ⌜ D.Leaves (D.directCall (D.solve D.weld context «use_bias») (now (joint .entry)) (now (states .entry))) r (now (joint .exit)) (now (states .exit)) ⌝ }
 {
-    let call = solve_call(2, context, use_bias);
-    direct_call(joint, states, call)
+    let n = states.len();
+    let places = find_places(2, *joint, n);
+    if places.answer.number != 0 {
+        return places.answer;
+    }
+    let pair = read_states(states, places);
+    let s = solve_as_weld(
+        *joint,
+        context.h,
+        context.inv_h,
+        pair.state_a,
+        pair.state_b,
+        use_bias,
+    );
+    *joint = staged_joint(*joint, s);
+    write_states(states, places, s.velocities);
+    places.answer
 }

@@ -3,21 +3,16 @@ ghost use mathlib.Core.Path.{_≡_};
 ghost use Rattle.direct.specs.Direct as D;
 ghost use Rattle.direct.specs.Steps as S;
 use crate::Answer;
-use crate::call::Call;
 use joint::index::index_cause;
 use joint::index::indices_of;
-use records::body::BodyState;
-use records::body::IDENTITY_BODY_STATE;
 use records::joint::JointSim;
 use records::joint::JointUnion;
 
-// The answer; the places of the two states among n, where n is the place of none; and what none
-// reads.
+// The answer, and the places of the two states among n, where n is the place of none.
 pub struct Places {
     pub answer: Answer,
     pub a: usize,
     pub b: usize,
-    pub none: BodyState,
 }
 
 // Whether the joint's case is the kind, by its number. The empty case is of no kind.
@@ -51,24 +46,15 @@ pub fn place_of(n: usize, index: i32) -> usize
     index as usize
 }
 
-// Where a call is refused, both places are none's.
-pub fn find_places(call: Call, joint: JointSim, n: usize) -> Places
-    ensures { λ r. ⌜ r ≡ S.placesOf call joint n ⌝ }
+// What a call of a kind answers, and where the joint's two states lie if it is not refused.
+pub fn find_places(kind: u8, joint: JointSim, n: usize) -> Places
+    ensures { λ r. ⌜ r ≡ S.placesOf kind joint n ⌝ }
 {
     let union_ = joint.union_;
-    let number = cause_of(call.kind, union_, n);
+    let number = cause_of(kind, union_, n);
     let answer = Answer { number, place: 0 };
-    let none = IDENTITY_BODY_STATE;
-    if number != 0 {
-        return Places {
-            answer,
-            a: n,
-            b: n,
-            none,
-        };
-    }
     let i = indices_of(union_);
     let a = place_of(n, i.a);
     let b = place_of(n, i.b);
-    Places { answer, a, b, none }
+    Places { answer, a, b }
 }

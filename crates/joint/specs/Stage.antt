@@ -1,5 +1,5 @@
 -- One stage of a joint of any kind, on the part of the joint that a stage may change. Definitions only. Assumes nothing.
-use mathlib.Core.Bool.{cond}
+use mathlib.Core.Bool.{Bool, cond}
 use Prim.Native.Nat.{ℕ}
 use lib.Dec.{eqb}
 use lib.Ieee.{Float}
@@ -7,9 +7,6 @@ use Rattle.records.specs.declared.body.BodyState.{BodyState}
 use Rattle.records.specs.declared.joint.JointBase.{JointBase}
 use Rattle.records.specs.declared.joint.JointUnion.{JointUnion}
 use Rattle.records.specs.declared.joint.JointUnion.the-variants.{Revolute, Spherical, Weld, Other}
-use Rattle.records.specs.declared.joint.RevoluteJoint.{RevoluteJoint}
-use Rattle.records.specs.declared.joint.SphericalJoint.{SphericalJoint}
-use Rattle.records.specs.declared.joint.WeldJoint.{WeldJoint}
 use Rattle.constraint.specs.declared.velocity.Velocities.{Velocities}
 use Rattle.constraint.specs.Velocity.{velocitiesOf}
 use Rattle.revolute.specs.Revolute.{warmStartRevolute, solveRevolute}
@@ -21,30 +18,34 @@ use Rattle.joint.specs.Index.{caseOf}
 abbrev pub staged : JointUnion → Velocities → Staged
 staged union velocities = record { «union_» = union; velocities = velocities }
 
--- document 01's stages: 0 warm start, 1 solve with bias, 2 solve without, and so is any other, which no accepted call has
-unfoldable pub stageRevolute : JointBase → RevoluteJoint → Float → Float → BodyState → BodyState → ℕ → Staged
-stageRevolute base j h invH stateA stateB stage =
-    let s = solveRevolute base j h invH stateA stateB (eqb stage 1) in
-    cond (eqb stage 0) (staged (Revolute j) (warmStartRevolute base j stateA stateB)) (staged (Revolute (s .joint)) (s .velocities))
-
-unfoldable pub stageSpherical : JointBase → SphericalJoint → Float → Float → BodyState → BodyState → ℕ → Staged
-stageSpherical base j h invH stateA stateB stage =
-    let s = solveSpherical base j h invH stateA stateB (eqb stage 1) in
-    cond (eqb stage 0) (staged (Spherical j) (warmStartSpherical base j stateA stateB)) (staged (Spherical (s .joint)) (s .velocities))
-
-unfoldable pub stageWeld : JointBase → WeldJoint → BodyState → BodyState → ℕ → Staged
-stageWeld base j stateA stateB stage =
-    let s = solveWeld base j stateA stateB (eqb stage 1) in
-    cond (eqb stage 0) (staged (Weld j) (warmStartWeld base j stateA stateB)) (staged (Weld (s .joint)) (s .velocities))
-
 -- by the joint's case; the empty one leaves all as it was
+unfoldable pub warmStartJoint : JointUnion → JointBase → BodyState → BodyState → Velocities
+warmStartJoint (Revolute j) base stateA stateB = warmStartRevolute base j stateA stateB
+warmStartJoint (Spherical j) base stateA stateB = warmStartSpherical base j stateA stateB
+warmStartJoint (Weld j) base stateA stateB = warmStartWeld base j stateA stateB
+warmStartJoint Other base stateA stateB = velocitiesOf stateA stateB
+
+unfoldable pub solveJoint : JointUnion → JointBase → Float → Float → BodyState → BodyState → Bool → Staged
+solveJoint (Revolute j) base h invH stateA stateB useBias =
+    let s = solveRevolute base j h invH stateA stateB useBias in
+    staged (Revolute (s .joint)) (s .velocities)
+solveJoint (Spherical j) base h invH stateA stateB useBias =
+    let s = solveSpherical base j h invH stateA stateB useBias in
+    staged (Spherical (s .joint)) (s .velocities)
+solveJoint (Weld j) base h invH stateA stateB useBias =
+    let s = solveWeld base j stateA stateB useBias in
+    staged (Weld (s .joint)) (s .velocities)
+solveJoint Other base h invH stateA stateB useBias = staged Other (velocitiesOf stateA stateB)
+
+-- document 01's stages: 0 warm start, 1 solve with bias, 2 solve without, and so is any other, which no accepted call has. A warm start only reads the joint
 unfoldable pub stageJoint : JointUnion → JointBase → Float → Float → BodyState → BodyState → ℕ → Staged
-stageJoint (Revolute j) base h invH stateA stateB stage = stageRevolute base j h invH stateA stateB stage
-stageJoint (Spherical j) base h invH stateA stateB stage = stageSpherical base j h invH stateA stateB stage
-stageJoint (Weld j) base h invH stateA stateB stage = stageWeld base j stateA stateB stage
-stageJoint Other base h invH stateA stateB stage = staged Other (velocitiesOf stateA stateB)
+stageJoint union base h invH stateA stateB stage =
+    cond (eqb stage 0) (staged union (warmStartJoint union base stateA stateB)) (solveJoint union base h invH stateA stateB (eqb stage 1))
 
 -- a joint taken as one of a kind, by the number of its case: one of another kind is left as it was
-unfoldable pub stageAs : ℕ → JointUnion → JointBase → Float → Float → BodyState → BodyState → ℕ → Staged
-stageAs kind union base h invH stateA stateB stage =
-    cond (eqb (caseOf union) kind) (stageJoint union base h invH stateA stateB stage) (staged union (velocitiesOf stateA stateB))
+unfoldable pub warmStartAs : ℕ → JointUnion → JointBase → BodyState → BodyState → Velocities
+warmStartAs kind union base stateA stateB = cond (eqb (caseOf union) kind) (warmStartJoint union base stateA stateB) (velocitiesOf stateA stateB)
+
+unfoldable pub solveAs : ℕ → JointUnion → JointBase → Float → Float → BodyState → BodyState → Bool → Staged
+solveAs kind union base h invH stateA stateB useBias =
+    cond (eqb (caseOf union) kind) (solveJoint union base h invH stateA stateB useBias) (staged union (velocitiesOf stateA stateB))

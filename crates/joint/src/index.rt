@@ -1,20 +1,8 @@
-// Which case a joint is, the bodies that it names by its two indices, and the tests of these.
+// The bodies that a joint names by its two indices, and the tests of these.
 ghost use mathlib.Core.Path.{_≡_};
 ghost use Rattle.joint.specs.Index as D;
 use records::NULL_INDEX;
 use records::joint::JointUnion;
-
-// Which case a joint is: 0 revolute, 1 spherical, 2 weld, 3 the empty case.
-pub fn case_of(union_: JointUnion) -> u8
-    ensures { λ r. ⌜ r ≡ D.caseOf «union_» ⌝ }
-{
-    match union_ {
-        JointUnion::Revolute(_) => 0,
-        JointUnion::Spherical(_) => 1,
-        JointUnion::Weld(_) => 2,
-        JointUnion::Other => 3,
-    }
-}
 
 // The two body indices of a joint.
 pub struct Indices {

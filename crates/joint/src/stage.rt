@@ -1,14 +1,12 @@
 // One stage of a joint of any kind, on the part of the joint that a stage may change.
 ghost use mathlib.Core.Path.{_≡_};
+ghost use Rattle.constraint.specs.Answer.{jointSim};
 ghost use Rattle.joint.specs.Stage as D;
 use constraint::velocity::Velocities;
 use constraint::velocity::velocities_of;
 use records::body::BodyState;
-use records::joint::JointBase;
+use records::joint::JointSim;
 use records::joint::JointUnion;
-use records::joint::RevoluteJoint;
-use records::joint::SphericalJoint;
-use records::joint::WeldJoint;
 use revolute::stages::solve_revolute;
 use revolute::stages::warm_start_revolute;
 use spherical::stages::solve_spherical;
@@ -22,163 +20,128 @@ pub struct Staged {
     pub velocities: Velocities,
 }
 
-// Stage 0 is a warm start, stage 1 a solve with bias, and any other a solve without.
-pub fn stage_revolute(
-    base: JointBase,
-    joint: RevoluteJoint,
+// The warm start of a joint taken as one of a kind. One of another kind moves nothing.
+pub fn warm_start_as_revolute(joint: JointSim, state_a: BodyState, state_b: BodyState) -> Velocities
+    ensures { λ r. ⌜ r ≡ D.warmStartAs 0 (joint .«union_») (joint .base) «state_a» «state_b» ⌝ }
+{
+    let u = joint.union_;
+    let JointUnion::Revolute(j) = u else {
+        return velocities_of(state_a, state_b);
+    };
+    warm_start_revolute(joint.base, j, state_a, state_b)
+}
+
+pub fn warm_start_as_spherical(
+    joint: JointSim,
+    state_a: BodyState,
+    state_b: BodyState,
+) -> Velocities
+    ensures { λ r. ⌜ r ≡ D.warmStartAs 1 (joint .«union_») (joint .base) «state_a» «state_b» ⌝ }
+{
+    let u = joint.union_;
+    let JointUnion::Spherical(j) = u else {
+        return velocities_of(state_a, state_b);
+    };
+    warm_start_spherical(joint.base, j, state_a, state_b)
+}
+
+pub fn warm_start_as_weld(joint: JointSim, state_a: BodyState, state_b: BodyState) -> Velocities
+    ensures { λ r. ⌜ r ≡ D.warmStartAs 2 (joint .«union_») (joint .base) «state_a» «state_b» ⌝ }
+{
+    let u = joint.union_;
+    let JointUnion::Weld(j) = u else {
+        return velocities_of(state_a, state_b);
+    };
+    warm_start_weld(joint.base, j, state_a, state_b)
+}
+
+// The solve of a joint taken as one of a kind. One of another kind is left as it was.
+pub fn solve_as_revolute(
+    joint: JointSim,
     h: f32,
     inv_h: f32,
     state_a: BodyState,
     state_b: BodyState,
-    stage: u8,
+    use_bias: bool,
 ) -> Staged
-    ensures { λ r. ⌜ r ≡ D.stageRevolute base joint h «inv_h» «state_a» «state_b» stage ⌝ }
+    ensures { λ r. ⌜ r ≡ D.solveAs 0 (joint .«union_») (joint .base) h «inv_h» «state_a» «state_b» «use_bias» ⌝ }
 {
-    if stage == 0 {
+    let u = joint.union_;
+    let JointUnion::Revolute(j) = u else {
+        let velocities = velocities_of(state_a, state_b);
         return Staged {
-            union_: JointUnion::Revolute(joint),
-            velocities: warm_start_revolute(base, joint, state_a, state_b),
+            union_: u,
+            velocities,
         };
-    }
-    let s = solve_revolute(base, joint, h, inv_h, state_a, state_b, stage == 1);
-    let next = s.joint;
+    };
+    let s = solve_revolute(joint.base, j, h, inv_h, state_a, state_b, use_bias);
+    let left = s.joint;
     let velocities = s.velocities;
     Staged {
-        union_: JointUnion::Revolute(next),
+        union_: JointUnion::Revolute(left),
         velocities,
     }
 }
 
-pub fn stage_spherical(
-    base: JointBase,
-    joint: SphericalJoint,
+pub fn solve_as_spherical(
+    joint: JointSim,
     h: f32,
     inv_h: f32,
     state_a: BodyState,
     state_b: BodyState,
-    stage: u8,
+    use_bias: bool,
 ) -> Staged
-    ensures { λ r. ⌜ r ≡ D.stageSpherical base joint h «inv_h» «state_a» «state_b» stage ⌝ }
+    ensures { λ r. ⌜ r ≡ D.solveAs 1 (joint .«union_») (joint .base) h «inv_h» «state_a» «state_b» «use_bias» ⌝ }
 {
-    if stage == 0 {
+    let u = joint.union_;
+    let JointUnion::Spherical(j) = u else {
+        let velocities = velocities_of(state_a, state_b);
         return Staged {
-            union_: JointUnion::Spherical(joint),
-            velocities: warm_start_spherical(base, joint, state_a, state_b),
+            union_: u,
+            velocities,
         };
-    }
-    let s = solve_spherical(base, joint, h, inv_h, state_a, state_b, stage == 1);
-    let next = s.joint;
+    };
+    let s = solve_spherical(joint.base, j, h, inv_h, state_a, state_b, use_bias);
+    let left = s.joint;
     let velocities = s.velocities;
     Staged {
-        union_: JointUnion::Spherical(next),
+        union_: JointUnion::Spherical(left),
         velocities,
     }
 }
 
-pub fn stage_weld(
-    base: JointBase,
-    joint: WeldJoint,
+pub fn solve_as_weld(
+    joint: JointSim,
+    h: f32,
+    inv_h: f32,
     state_a: BodyState,
     state_b: BodyState,
-    stage: u8,
+    use_bias: bool,
 ) -> Staged
-    ensures { λ r. ⌜ r ≡ D.stageWeld base joint «state_a» «state_b» stage ⌝ }
+    ensures { λ r. ⌜ r ≡ D.solveAs 2 (joint .«union_») (joint .base) h «inv_h» «state_a» «state_b» «use_bias» ⌝ }
 {
-    if stage == 0 {
+    let u = joint.union_;
+    let JointUnion::Weld(j) = u else {
+        let velocities = velocities_of(state_a, state_b);
         return Staged {
-            union_: JointUnion::Weld(joint),
-            velocities: warm_start_weld(base, joint, state_a, state_b),
+            union_: u,
+            velocities,
         };
-    }
-    let s = solve_weld(base, joint, state_a, state_b, stage == 1);
-    let next = s.joint;
+    };
+    let s = solve_weld(joint.base, j, state_a, state_b, use_bias);
+    let left = s.joint;
     let velocities = s.velocities;
     Staged {
-        union_: JointUnion::Weld(next),
+        union_: JointUnion::Weld(left),
         velocities,
     }
 }
 
-// The stage of a joint taken as one of a kind. A joint of another kind is left as it was.
-pub fn stage_as_revolute(
-    base: JointBase,
-    union_: JointUnion,
-    h: f32,
-    inv_h: f32,
-    state_a: BodyState,
-    state_b: BodyState,
-    stage: u8,
-) -> Staged
-    ensures { λ r. ⌜ r ≡ D.stageAs 0 «union_» base h «inv_h» «state_a» «state_b» stage ⌝ }
+// The joint as a stage leaves it.
+pub fn staged_joint(joint: JointSim, staged: Staged) -> JointSim
+    ensures { λ r. ⌜ r ≡ jointSim (joint .base) (staged .«union_») ⌝ }
 {
-    let JointUnion::Revolute(j) = union_ else {
-        return Staged {
-            union_,
-            velocities: velocities_of(state_a, state_b),
-        };
-    };
-    stage_revolute(base, j, h, inv_h, state_a, state_b, stage)
-}
-
-pub fn stage_as_spherical(
-    base: JointBase,
-    union_: JointUnion,
-    h: f32,
-    inv_h: f32,
-    state_a: BodyState,
-    state_b: BodyState,
-    stage: u8,
-) -> Staged
-    ensures { λ r. ⌜ r ≡ D.stageAs 1 «union_» base h «inv_h» «state_a» «state_b» stage ⌝ }
-{
-    let JointUnion::Spherical(j) = union_ else {
-        return Staged {
-            union_,
-            velocities: velocities_of(state_a, state_b),
-        };
-    };
-    stage_spherical(base, j, h, inv_h, state_a, state_b, stage)
-}
-
-pub fn stage_as_weld(
-    base: JointBase,
-    union_: JointUnion,
-    h: f32,
-    inv_h: f32,
-    state_a: BodyState,
-    state_b: BodyState,
-    stage: u8,
-) -> Staged
-    ensures { λ r. ⌜ r ≡ D.stageAs 2 «union_» base h «inv_h» «state_a» «state_b» stage ⌝ }
-{
-    let JointUnion::Weld(j) = union_ else {
-        return Staged {
-            union_,
-            velocities: velocities_of(state_a, state_b),
-        };
-    };
-    stage_weld(base, j, state_a, state_b, stage)
-}
-
-// The stage of the kind that the joint is. The empty case leaves all as it was.
-pub fn stage_joint(
-    base: JointBase,
-    union_: JointUnion,
-    h: f32,
-    inv_h: f32,
-    state_a: BodyState,
-    state_b: BodyState,
-    stage: u8,
-) -> Staged
-    ensures { λ r. ⌜ r ≡ D.stageJoint «union_» base h «inv_h» «state_a» «state_b» stage ⌝ }
-{
-    match union_ {
-        JointUnion::Revolute(j) => stage_revolute(base, j, h, inv_h, state_a, state_b, stage),
-        JointUnion::Spherical(j) => stage_spherical(base, j, h, inv_h, state_a, state_b, stage),
-        JointUnion::Weld(j) => stage_weld(base, j, state_a, state_b, stage),
-        JointUnion::Other => Staged {
-            union_: JointUnion::Other,
-            velocities: velocities_of(state_a, state_b),
-        },
-    }
+    let base = joint.base;
+    let union_ = staged.union_;
+    JointSim { base, union_ }
 }

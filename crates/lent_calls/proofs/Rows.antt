@@ -63,7 +63,7 @@ abbrev pub vals-l : Left → List Val
 vals-l y = val-l y ∷ []
 
 pub l-of : (y : Left) → Is Wn (y .answer) (vals-w (y .answer)) → Is J (y .joint) (vals-j (y .joint)) → Is S (y .states) (vals-a (y .states)) → Is Lf y (vals-l y)
-unfolding val-j val-w
+unfolding val-j
 l-of y w-is j-is a-is = ((vals-w (y .answer), (vals-j (y .joint), (vals-a (y .states), tt))), (refl, (w-is, (j-is, (is-same (Ts.the-field .row) BodyState (Ts.the-field .into) (Ts.the-field .into-one) all (y .states) _ a-is, tt)))))
 
 -- ---- over a model
@@ -77,5 +77,5 @@ module _ {M : Type 1} (𝓤 : URA M) (H : Heap 𝓤) (A : Atoms 𝓤) where
     typed-a ys is = array-lawful 𝓤 H A W R (LL.lawful Ts.the-type Ts′.the-laws 𝓤 H A W) all .typed ys _ is .0
 
     pub typed-l : (y : Left) → Is Lf y (vals-l y) → T (hasTy Tl′.mir (val-l y)) × WT (val-l y)
-    unfolding val-s val-j val-w val-a
+    unfolding val-s val-j val-a
     typed-l y is = LL.lawful Tl.the-type Tl′.the-laws 𝓤 H A W .typed y _ is .0

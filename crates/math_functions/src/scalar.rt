@@ -1,4 +1,4 @@
-// Scalar helpers: absolute value, minimum, maximum, clamp, and the arctangent.
+// Scalars: absolute value, minimum, maximum, clamp, and the arctangent.
 ghost use mathlib.Core.Path.{_≡_};
 ghost use Rattle.math_functions.specs.Scalar as D;
 

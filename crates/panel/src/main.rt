@@ -57,7 +57,7 @@ fn print_answer(run: Run) {
     if run.still {
         io::write_all(STDOUT_FILENO, b", still\n");
     } else {
-        io::write_all(STDOUT_FILENO, b", moving\n");
+        io::write_all(STDOUT_FILENO, b", not still\n");
     }
 }
 

@@ -40,7 +40,7 @@ pub record LimitsNonNegative (j next : RevoluteJoint) : Type 0 where
   pub upper : j .«enable_limit» ≡ true → NonNegative (next .«upper_impulse»)
 
 module _ (base : JointBase) (j : RevoluteJoint) (h invH : Float) (stateA stateB : BodyState) (useBias : Bool) where
-  -- while the rotation is not fixed an enabled limit never pulls, whatever its impulse was before
+  -- while the rotation is not fixed an enabled limit's impulse ends zero or above, whatever it was before
   pub solve-lower-nonNegative :
       base .«fixed_rotation» ≡ false →
       j .«enable_limit» ≡ true →

@@ -202,10 +202,6 @@ run-verdict s l = by (eqb (verdict s l .number) 0) refl
 pub accepted-calls : (s : Scene) (l : List ℕ) → Accepted s l → NoCause (callTests s 0 (calls l))
 accepted-calls s l e = verdict-answers s l .none e .0 .1 .1
 
--- no cause of one call, at any place
-no-cause-any : (s : Scene) (p q : ℕ) (c : Call) → NoCause (callTests s p (c ∷ [])) → NoCause (callTests s q (c ∷ []))
-no-cause-any s p q c h = h
-
 head-of : (s : Scene) (p : ℕ) (c : Call) (l : List Call) → NoCause (callTests s p (c ∷ l)) → NoCause (callTests s p (c ∷ []))
 head-of s p c l h = (h .0, (h .1 .0, (h .1 .1 .0, (h .1 .1 .1 .0, (h .1 .1 .1 .1 .0, tt)))))
 

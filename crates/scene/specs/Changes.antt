@@ -4,9 +4,11 @@ use mathlib.Core.Logic.{_⊎_, inl, inr, ⊎-elim, _≢_}
 use mathlib.Core.Bool.{Bool, true, false}
 use mathlib.Core.List.{List, [], _∷_}
 use Prim.Native.Nat.{ℕ}
+use lib.Dec.{eqb}
 use lib.IntN.{ℤ, pos}
-use lib.ListN.{length, getD, length-map}
-use lib.Seq.{getD-set-other}
+use lib.ListN.{length, getD, set, length-map}
+use lib.Seq.{getD-set-other, set-getD}
+use borrow.Author.Tests.{eqb-true, eqb-false}
 use Rattle.records.specs.declared.body.BodyState.{BodyState}
 use Rattle.records.specs.declared.joint.JointUnion.{JointUnion}
 use Rattle.records.specs.Body.{isDynamic, identityBodyState}
@@ -16,7 +18,9 @@ use Rattle.scene.specs.Reorder.{runAll}
 use Rattle.records.specs.Joint.{unusedJoint}
 use Rattle.joint.specs.Index.{indexA, indexB}
 use Rattle.scene.specs.Scene.{jointAt, bodyAt, Dynamic, NamesBody, Names}
-use Rattle.scene.specs.Calls.{Call, Listed}
+use Rattle.scene.specs.Calls.{Call, Listed, Solved}
+use Rattle.constraint.specs.Answer.{jointSim}
+use Rattle.scene.specs.Stages.{warm-keeps}
 use Rattle.scene.specs.Plain.{stageAt, storeBoth, step}
 use Rattle.scene.specs.Claims.{OnlyVelocities, OnlyChanges}
 use Rattle.scene.specs.Stores.{restOf, SameRest, rest-at, dynamic-at, clash, both-unseen}
@@ -56,15 +60,28 @@ bodies-kept : (s : Scene) (n : ℕ) (l : List Call) (t : Scene) → Framed s t �
 bodies-kept s n [] t f h = refl
 bodies-kept s n (c ∷ l) t f h = bodies-kept s n l (step c t) (framed-step s c t f) (λ j p. h j (inr p)) ∙ call-keeps-body s n c t f (h (c .slot) (inl refl))
 
--- ---- a joint that is not listed
+-- ---- a joint that no call solves
 
 pub call-keeps-joint : (j : ℕ) (c : Call) (s : Scene) → c .slot ≢ j → jointAt (step c s) j ≡ jointAt s j
 unfolding step
 call-keeps-joint j c s h = getD-set-other (s .joints) (c .slot) j _ unusedJoint (λ p. h (sym p))
 
-joint-stays : (s : Scene) (l : List Call) (j : ℕ) → ¬ (Listed j l) → jointAt (runAll step l s) j ≡ jointAt s j
+warm-start-keeps : (c : Call) (s : Scene) → c .stage ≡ 0 → step c s .joints ≡ s .joints
+unfolding step
+warm-start-keeps c s e =
+    let j = jointAt s (c .slot) in
+    ap (λ u. set (s .joints) (c .slot) (jointSim (j .base) u)) (warm-keeps (j .base) _ _ _ _ (c .stage) (j .«union_») e) ∙ set-getD (s .joints) (c .slot) unusedJoint
+
+unsolved-call : (j : ℕ) (c : Call) (s : Scene) → ¬ ((c .slot ≡ j) × (c .stage ≢ 0)) → jointAt (step c s) j ≡ jointAt s j
+unsolved-call j c s h = by (eqb (c .stage) 0) refl
+  where
+    by : (b : Bool) → eqb (c .stage) 0 ≡ b → jointAt (step c s) j ≡ jointAt s j
+    by true e = ap (λ joints. getD joints j unusedJoint) (warm-start-keeps c s (eqb-true (c .stage) 0 e))
+    by false e = call-keeps-joint j c s (λ p. h (p, eqb-false (c .stage) 0 e))
+
+joint-stays : (s : Scene) (l : List Call) (j : ℕ) → ¬ (Solved j l) → jointAt (runAll step l s) j ≡ jointAt s j
 joint-stays s [] j h = refl
-joint-stays s (c ∷ l) j h = joint-stays (step c s) l j (λ p. h (inr p)) ∙ call-keeps-joint j c s (λ p. h (inl p))
+joint-stays s (c ∷ l) j h = joint-stays (step c s) l j (λ p. h (inr p)) ∙ unsolved-call j c s (λ p. h (inl p))
 
 -- ---- all else
 

@@ -188,8 +188,8 @@ pub record OnlyChanges (s : Scene) (l : List Call) (t : Scene) : Type 0 where
   pub joints : (j : ℕ) → OnlyImpulses (jointAt s j) (jointAt t j)
   -- a body that is not dynamic, or that no listed joint names, is kept whole
   pub body-kept : (n : ℕ) → ((j : ℕ) → Listed j l → Names s j n → ¬ (Dynamic s n)) → bodyAt t n ≡ bodyAt s n
-  -- and so is a joint that is not listed
-  pub joint-kept : (j : ℕ) → ¬ (Listed j l) → jointAt t j ≡ jointAt s j
+  -- and so is a joint that is not listed, or only for warm starts
+  pub joint-kept : (j : ℕ) → ¬ (Solved j l) → jointAt t j ≡ jointAt s j
 
 -- Whatever the list, a run changes nothing else.
 abbrev pub Changes : Type 0

@@ -59,11 +59,11 @@ each-alike j = turned (eqb 0 j) (eqb 1 j) _ _ (λ p q. omega (arith, eqb-true 0 
 -- ---- a dynamic body in the middle
 
 one-ends : endX 0x1000 firstThenSecond 0 ≡ two
-unfolding chain plainRun verdict earlyCause cause step store isStill sameVelocities Body.isDynamic Body.storeVelocities Stage.stageJoint Stage.stageWeld Weld.solveWeld Weld.solveAngular Weld.weldAngularRow Weld.solvePoint Weld.pointRow Weld.isSoft Velocity.velocitiesOf Velocity.invMassesOf Velocity.applyPoint Soft.softImpulse3 Soft.softBias3 Rotation.flippedRelativeRotation Rotation.relativeRotation Rotation.samePolarity Angular.isWorked Point.pointBias Point.pointMass Point.pointCdotGrouped Scalar.absFloat Vector.add Vector.sub Vector.neg Vector.dot Vector.mulAdd Vector.mulSub Vector.mulSv Vector.cross Quat.rotateVector Quat.mulQuat Quat.invMulQuat Quat.dotQuat Quat.negateQuat Matrix.det Matrix.mulMv Matrix.negateMat3 Matrix.addMm Matrix.mulMm Matrix.solve3 Matrix.skew Ieee.ofBits Ieee.neg Ieee.add Ieee.sub Ieee.mul Ieee.div Ieee.lt Ieee.eq
+unfolding chain plainRun verdict earlyCause cause step store isStill sameVelocities Body.isDynamic Body.storeVelocities Stage.stageJoint Stage.warmStartJoint Stage.solveJoint Weld.solveWeld Weld.solveAngular Weld.weldAngularRow Weld.solvePoint Weld.pointRow Weld.isSoft Velocity.velocitiesOf Velocity.invMassesOf Velocity.applyPoint Soft.softImpulse3 Soft.softBias3 Rotation.flippedRelativeRotation Rotation.relativeRotation Rotation.samePolarity Angular.isWorked Point.pointBias Point.pointMass Point.pointCdotGrouped Scalar.absFloat Vector.add Vector.sub Vector.neg Vector.dot Vector.mulAdd Vector.mulSub Vector.mulSv Vector.cross Quat.rotateVector Quat.mulQuat Quat.invMulQuat Quat.dotQuat Quat.negateQuat Matrix.det Matrix.mulMv Matrix.negateMat3 Matrix.addMm Matrix.mulMm Matrix.solve3 Matrix.skew Ieee.ofBits Ieee.neg Ieee.add Ieee.sub Ieee.mul Ieee.div Ieee.lt Ieee.eq
 one-ends = refl
 
 other-ends : endX 0x1000 secondThenFirst 0 ≡ four
-unfolding chain plainRun verdict earlyCause cause step store isStill sameVelocities Body.isDynamic Body.storeVelocities Stage.stageJoint Stage.stageWeld Weld.solveWeld Weld.solveAngular Weld.weldAngularRow Weld.solvePoint Weld.pointRow Weld.isSoft Velocity.velocitiesOf Velocity.invMassesOf Velocity.applyPoint Soft.softImpulse3 Soft.softBias3 Rotation.flippedRelativeRotation Rotation.relativeRotation Rotation.samePolarity Angular.isWorked Point.pointBias Point.pointMass Point.pointCdotGrouped Scalar.absFloat Vector.add Vector.sub Vector.neg Vector.dot Vector.mulAdd Vector.mulSub Vector.mulSv Vector.cross Quat.rotateVector Quat.mulQuat Quat.invMulQuat Quat.dotQuat Quat.negateQuat Matrix.det Matrix.mulMv Matrix.negateMat3 Matrix.addMm Matrix.mulMm Matrix.solve3 Matrix.skew Ieee.ofBits Ieee.neg Ieee.add Ieee.sub Ieee.mul Ieee.div Ieee.lt Ieee.eq
+unfolding chain plainRun verdict earlyCause cause step store isStill sameVelocities Body.isDynamic Body.storeVelocities Stage.stageJoint Stage.warmStartJoint Stage.solveJoint Weld.solveWeld Weld.solveAngular Weld.weldAngularRow Weld.solvePoint Weld.pointRow Weld.isSoft Velocity.velocitiesOf Velocity.invMassesOf Velocity.applyPoint Soft.softImpulse3 Soft.softBias3 Rotation.flippedRelativeRotation Rotation.relativeRotation Rotation.samePolarity Angular.isWorked Point.pointBias Point.pointMass Point.pointCdotGrouped Scalar.absFloat Vector.add Vector.sub Vector.neg Vector.dot Vector.mulAdd Vector.mulSub Vector.mulSv Vector.cross Quat.rotateVector Quat.mulQuat Quat.invMulQuat Quat.dotQuat Quat.negateQuat Matrix.det Matrix.mulMv Matrix.negateMat3 Matrix.addMm Matrix.mulMm Matrix.solve3 Matrix.skew Ieee.ofBits Ieee.neg Ieee.add Ieee.sub Ieee.mul Ieee.div Ieee.lt Ieee.eq
 other-ends = refl
 
 two-is-not-four : two ≢ four
@@ -97,11 +97,11 @@ unfolding chain Body.isDynamic
 not-dynamic e = false≢true e
 
 first-moved : endX 0 firstThenSecond 0 ≡ two
-unfolding chain plainRun verdict earlyCause cause step store isStill sameVelocities Body.isDynamic Body.storeVelocities Stage.stageJoint Stage.stageWeld Weld.solveWeld Weld.solveAngular Weld.weldAngularRow Weld.solvePoint Weld.pointRow Weld.isSoft Velocity.velocitiesOf Velocity.invMassesOf Velocity.applyPoint Soft.softImpulse3 Soft.softBias3 Rotation.flippedRelativeRotation Rotation.relativeRotation Rotation.samePolarity Angular.isWorked Point.pointBias Point.pointMass Point.pointCdotGrouped Scalar.absFloat Vector.add Vector.sub Vector.neg Vector.dot Vector.mulAdd Vector.mulSub Vector.mulSv Vector.cross Quat.rotateVector Quat.mulQuat Quat.invMulQuat Quat.dotQuat Quat.negateQuat Matrix.det Matrix.mulMv Matrix.negateMat3 Matrix.addMm Matrix.mulMm Matrix.solve3 Matrix.skew Ieee.ofBits Ieee.neg Ieee.add Ieee.sub Ieee.mul Ieee.div Ieee.lt Ieee.eq
+unfolding chain plainRun verdict earlyCause cause step store isStill sameVelocities Body.isDynamic Body.storeVelocities Stage.stageJoint Stage.warmStartJoint Stage.solveJoint Weld.solveWeld Weld.solveAngular Weld.weldAngularRow Weld.solvePoint Weld.pointRow Weld.isSoft Velocity.velocitiesOf Velocity.invMassesOf Velocity.applyPoint Soft.softImpulse3 Soft.softBias3 Rotation.flippedRelativeRotation Rotation.relativeRotation Rotation.samePolarity Angular.isWorked Point.pointBias Point.pointMass Point.pointCdotGrouped Scalar.absFloat Vector.add Vector.sub Vector.neg Vector.dot Vector.mulAdd Vector.mulSub Vector.mulSv Vector.cross Quat.rotateVector Quat.mulQuat Quat.invMulQuat Quat.dotQuat Quat.negateQuat Matrix.det Matrix.mulMv Matrix.negateMat3 Matrix.addMm Matrix.mulMm Matrix.solve3 Matrix.skew Ieee.ofBits Ieee.neg Ieee.add Ieee.sub Ieee.mul Ieee.div Ieee.lt Ieee.eq
 first-moved = refl
 
 last-moved : endX 0 firstThenSecond 2 ≡ four
-unfolding chain plainRun verdict earlyCause cause step store isStill sameVelocities Body.isDynamic Body.storeVelocities Stage.stageJoint Stage.stageWeld Weld.solveWeld Weld.solveAngular Weld.weldAngularRow Weld.solvePoint Weld.pointRow Weld.isSoft Velocity.velocitiesOf Velocity.invMassesOf Velocity.applyPoint Soft.softImpulse3 Soft.softBias3 Rotation.flippedRelativeRotation Rotation.relativeRotation Rotation.samePolarity Angular.isWorked Point.pointBias Point.pointMass Point.pointCdotGrouped Scalar.absFloat Vector.add Vector.sub Vector.neg Vector.dot Vector.mulAdd Vector.mulSub Vector.mulSv Vector.cross Quat.rotateVector Quat.mulQuat Quat.invMulQuat Quat.dotQuat Quat.negateQuat Matrix.det Matrix.mulMv Matrix.negateMat3 Matrix.addMm Matrix.mulMm Matrix.solve3 Matrix.skew Ieee.ofBits Ieee.neg Ieee.add Ieee.sub Ieee.mul Ieee.div Ieee.lt Ieee.eq
+unfolding chain plainRun verdict earlyCause cause step store isStill sameVelocities Body.isDynamic Body.storeVelocities Stage.stageJoint Stage.warmStartJoint Stage.solveJoint Weld.solveWeld Weld.solveAngular Weld.weldAngularRow Weld.solvePoint Weld.pointRow Weld.isSoft Velocity.velocitiesOf Velocity.invMassesOf Velocity.applyPoint Soft.softImpulse3 Soft.softBias3 Rotation.flippedRelativeRotation Rotation.relativeRotation Rotation.samePolarity Angular.isWorked Point.pointBias Point.pointMass Point.pointCdotGrouped Scalar.absFloat Vector.add Vector.sub Vector.neg Vector.dot Vector.mulAdd Vector.mulSub Vector.mulSv Vector.cross Quat.rotateVector Quat.mulQuat Quat.invMulQuat Quat.dotQuat Quat.negateQuat Matrix.det Matrix.mulMv Matrix.negateMat3 Matrix.addMm Matrix.mulMm Matrix.solve3 Matrix.skew Ieee.ofBits Ieee.neg Ieee.add Ieee.sub Ieee.mul Ieee.div Ieee.lt Ieee.eq
 last-moved = refl
 
 -- of the dynamic bodies joint 0 names 0 and joint 1 names 2, and no other joint names a body: so no two share one

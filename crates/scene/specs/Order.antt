@@ -24,6 +24,7 @@ use Rattle.joint.specs.Index.{indexA, indexB}
 use Rattle.scene.specs.Scene.{jointAt, Dynamic, Names, ShareDynamic}
 use Rattle.scene.specs.Calls.{Call, calls, onlyOf, onlyOfTwo}
 use Rattle.scene.specs.Plain.{placed, stageAt, step, done, Accepted, plainRun}
+use Rattle.scene.specs.Still.{both}
 use Rattle.scene.specs.Stores.{clash, clash-at, Clear, both-unseen, both-swap}
 use Rattle.scene.specs.Framed.{Framed, framed-start, framed-step, fixed-at}
 
@@ -87,13 +88,9 @@ or-right : (a b : Bool) → b ≡ true → a || b ≡ true
 or-right true b e = refl
 or-right false b e = e
 
-and-true : (a b : Bool) → a && b ≡ true → (a ≡ true) × (b ≡ true)
-and-true true b e = (refl, e)
-and-true false b e = absurd (false≢true e)
-
 pub clash-yes : (bs : List BodyState) (x y : ℤ) → clash bs x y ≡ true → (n : ℕ) × (x ≡ pos n) × (y ≡ pos n) × (isDynamic (getD bs n identityBodyState) ≡ true)
 clash-yes bs (pos m) (pos n) e =
-    let h = and-true (eqb m n) (isDynamic (getD bs m identityBodyState)) e in
+    let h = both (eqb m n) (isDynamic (getD bs m identityBodyState)) e in
     (m, refl, ap pos (sym (eqb-true m n (h .0))), h .1)
 clash-yes bs (pos m) (negsuc n) e = absurd (false≢true e)
 clash-yes bs (negsuc m) y e = absurd (false≢true e)

@@ -25,13 +25,16 @@ use Rattle.scene.specs.Calls.{Call, calls}
 
 -- ---- a run's tests
 
--- within a call the tests 4, 5, 1, 2, 3: the first cause that holds, or 0. A call has no kind of its own, so that of 1 only 'not one of the three' is left
+-- the tests 1, 2, 3, which only the call's joint decides. A call has no kind of its own, so that of 1 only 'not one of the three' is left
+abbrev pub jointCause : ℕ → JointUnion → ℕ
+jointCause bodyCount union = cond (isOther union) 1 (indexCause bodyCount union)
+
+-- within a call the tests 4, 5, 1, 2, 3: the first cause that holds, or 0, where `ofJoint` is the first of 1, 2, 3
+abbrev pub callCause : ℕ → ℕ → Call → ℕ
+callCause jointCount ofJoint c = cond (leb jointCount (c .slot)) 4 (cond (ltb 2 (c .stage)) 5 ofJoint)
+
 abbrev pub causeIn : ℕ → ℕ → JointUnion → Call → ℕ
-causeIn bodyCount jointCount union c =
-    cond (leb jointCount (c .slot)) 4
-    (cond (ltb 2 (c .stage)) 5
-    (cond (isOther union) 1
-    (indexCause bodyCount union)))
+causeIn bodyCount jointCount union c = callCause jointCount (jointCause bodyCount union) c
 
 unfoldable pub cause : Scene → Call → ℕ
 cause s c = causeIn (s .«body_count») (s .«joint_count») (jointAt s (c .slot) .«union_») c

@@ -15,10 +15,7 @@ module _ {C S : Type 0} where
   runAll step (a ∷ l) s = runAll step l (step a s)
 
 module _ {C : Type 0} where
-  -- the calls of one slot; the calls of two
-  abbrev pub ofOne : (C → ℕ) → ℕ → C → Bool
-  ofOne slot j a = eqb (slot a) j
-
+  -- the calls of two slots
   abbrev pub ofTwo : (C → ℕ) → ℕ → ℕ → C → Bool
   ofTwo slot j k a = eqb (slot a) j || eqb (slot a) k
 

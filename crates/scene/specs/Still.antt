@@ -17,7 +17,8 @@ use Rattle.records.specs.Body.{identityBodyState}
 use Rattle.scene.specs.Plain.{sameVector, sameVelocities, sameBelow}
 use Rattle.scene.specs.Claims.{SameVector, SameVelocities, NoNaN}
 
-both : (a b : Bool) → a && b ≡ true → (a ≡ true) × (b ≡ true)
+-- of two tests that hold together each holds
+pub both : (a b : Bool) → a && b ≡ true → (a ≡ true) × (b ≡ true)
 both true b e = (refl, e)
 both false b e = absurd (false≢true e)
 

@@ -1,5 +1,5 @@
 -- What the functions' proofs cite, on plain values. Assumes nothing.
-mod Nans
+pub mod Nans
 mod Unpacking
 mod Guesses
 mod Scaled

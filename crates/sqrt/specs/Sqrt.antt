@@ -1,4 +1,4 @@
--- IEEE 754's squareRoot on binary32, rounded to the nearest, over whole numbers: where a root lies is told by squares. A definition only; it assumes nothing.
+-- IEEE 754's squareRoot on binary32, rounded to the nearest, over whole numbers: where a root lies is told by squares. Definitions only. Assumes nothing.
 -- `Nearest.antt` proves that the result is the nearest float, and the only nearest. `Special.antt` has the zeros, the infinities, the NaN and the negative numbers.
 use Prim.Native.Nat.{ℕ, zero, suc, _+_, _-_, _*_, _/_, _^_}
 use mathlib.Core.Bool.{true, false, cond}

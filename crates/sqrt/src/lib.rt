@@ -4,15 +4,15 @@ ghost use Prim.Native.Nat.{_+_, _*_, _%_, _^_, _≤_, _<_};
 ghost use lib.Ieee.{binary32, ofBits};
 ghost use Rattle.sqrt.specs.Sqrt as D;
 ghost use Rattle.sqrt.specs.Steps.{Unpacks, NearestRoot};
-use crate::cubics::Cubic;
-use crate::cubics::INTERVAL;
-use crate::cubics::INTERVALS;
-use crate::cubics::UNIT;
-use crate::cubics::cubic_at;
+use crate::quadratics::INTERVAL;
+use crate::quadratics::INTERVALS;
+use crate::quadratics::Quadratic;
+use crate::quadratics::UNIT;
+use crate::quadratics::quadratic_at;
 use std::num::wrapping_add_u64;
 use std::num::wrapping_sub_u64;
 
-mod cubics;
+mod quadratics;
 
 // The patterns of three `f32`s.
 const LEAST_NORMAL: u32 = 0x0080_0000;
@@ -59,18 +59,15 @@ fn unpack_subnormal(b: u64) -> Unpacked
 
 // A guess at the digits of a normal number's root, from its pattern, by a polynomial in d, which
 // counts from the start of the interval. Only the range is promised: a bad guess would cost time
-// and nothing else. The sums wrap, so that nothing is asked of the coefficients. The cube is added
-// last, since it is ready last.
+// and nothing else. The sums wrap, so that nothing is asked of the coefficients.
 fn estimate(b: u64) -> u64
     ensures { λ r. ⌜ r < 2 ^ 32 ⌝ }
 {
-    let Cubic(c3, c2, c1, c0) = cubic_at(b / INTERVAL % INTERVALS);
+    let Quadratic(c2, c1, c0) = quadratic_at(b / INTERVAL % INTERVALS);
     let d = b % INTERVAL;
     let d2 = d * d / INTERVAL;
-    let d3 = d2 * d / INTERVAL;
     let linear = wrapping_add_u64(c0, (c1 as u64) * d);
-    let quadratic = wrapping_sub_u64(linear, (c2 as u64) * d2);
-    wrapping_add_u64(quadratic, (c3 as u64) * d3) / UNIT
+    wrapping_sub_u64(linear, (c2 as u64) * d2) / UNIT
 }
 
 // A guess that is not above the nearest root: the one given, or what Heron's steps make of it.

@@ -1,7 +1,9 @@
 //! The rows of the bench, worked by the published Rust: `bench ROW REPEATS` prints a checksum, and
-//! with fewer arguments each row is worked once. Numbers and checksums are those of the program
-//! crates/bench.
+//! with fewer arguments each row is worked once. Numbers and checksums are those of the programs
+//! crates/bench and crates/bench_stages.
 
+mod bench_stages;
+mod bench_sum;
 mod bench_wall;
 #[allow(dead_code)]
 mod records;
@@ -10,18 +12,22 @@ mod words;
 
 include!("published.rs");
 
+use bench_stages::run_stages;
+use bench_sum::{add_float, sum_wall};
 use bench_wall::Wall;
 use body::BodyState;
 use joint::revolute::{solve_revolute_joint, warm_start_revolute_joint};
 use joint::spherical::{solve_spherical_joint, warm_start_spherical_joint};
 use joint::weld::{solve_weld_joint, warm_start_weld_joint};
-use joint::{JointSim, JointUnion, RevoluteJoint, SphericalJoint};
-use math_functions::{atan2, Vec3};
+use joint::{JointSim, JointUnion};
+use math_functions::atan2;
 use solver::StepContext;
 
-/// A row for each kind of joints and each kind of list, then the two leaves.
+/// A row for each kind of joints and each kind of list, then the two leaves, then one for each kind and
+/// each of its stages.
 const LISTS: usize = 16;
-const ROWS: usize = LISTS + 2;
+const STAGES: usize = LISTS + 2;
+const ROWS: usize = STAGES + 12;
 
 /// How many calls a repeat makes.
 const CALLS: usize = 4096;
@@ -77,63 +83,12 @@ fn arctangents(calls: usize) -> u32 {
     add_float(0, total)
 }
 
-fn add_float(sum: u32, x: f32) -> u32 {
-    let word = if x.is_nan() { 0x7fc0_0000 } else { x.to_bits() };
-    ((u64::from(sum) * 16777619 + u64::from(word)) % 4294967291) as u32
-}
-
-fn add_floats(sum: u32, floats: &[f32]) -> u32 {
-    floats.iter().fold(sum, |sum, x| add_float(sum, *x))
-}
-
-fn add_vec3(sum: u32, v: Vec3) -> u32 {
-    add_floats(sum, &[v.x, v.y, v.z])
-}
-
-fn add_revolute(sum: u32, j: &RevoluteJoint) -> u32 {
-    let sum = add_vec3(sum, j.linear_impulse);
-    let sum = add_floats(sum, &[j.perp_impulse.x, j.perp_impulse.y]);
-    let sum = add_floats(sum, &[j.spring_impulse, j.motor_impulse]);
-    add_floats(sum, &[j.lower_impulse, j.upper_impulse])
-}
-
-fn add_spherical(sum: u32, j: &SphericalJoint) -> u32 {
-    let sum = add_vec3(sum, j.linear_impulse);
-    let sum = add_vec3(add_vec3(sum, j.spring_impulse), j.motor_impulse);
-    add_floats(
-        sum,
-        &[
-            j.lower_twist_impulse,
-            j.upper_twist_impulse,
-            j.swing_impulse,
-        ],
-    )
-}
-
-fn add_impulses(sum: u32, joint: &JointSim) -> u32 {
-    match &joint.union_ {
-        JointUnion::Revolute(j) => add_revolute(sum, j),
-        JointUnion::Spherical(j) => add_spherical(sum, j),
-        JointUnion::Weld(j) => add_vec3(add_vec3(sum, j.linear_impulse), j.angular_impulse),
-        _ => sum,
-    }
-}
-
-fn sum_wall(wall: &Wall) -> u32 {
-    wall.joints
-        .iter()
-        .zip(&wall.states)
-        .fold(0, |sum, (joint, state)| {
-            let sum = add_vec3(add_impulses(sum, joint), state.linear_velocity);
-            add_vec3(sum, state.angular_velocity)
-        })
-}
-
 fn work(row: usize, repeats: usize) -> u32 {
     match row {
         row if row < LISTS => run_lists(row / 4, row % 4, repeats),
         LISTS => roots(CALLS * repeats),
-        _ => arctangents(CALLS * repeats),
+        row if row < STAGES => arctangents(CALLS * repeats),
+        _ => run_stages(row - STAGES, CALLS * repeats),
     }
 }
 

@@ -1,5 +1,5 @@
-//! The wall of gates that the lists run on: the models of crates/models, hung in a row as
-//! crates/bench hangs them.
+//! The wall of gates that the rows work on: the models of crates/models, hung in a row as
+//! crates/bench_wall hangs them.
 
 use crate::body::{body_flags::DYNAMIC_FLAG, BodyState};
 use crate::joint::revolute::prepare_revolute_joint;
@@ -10,22 +10,30 @@ use crate::math_functions::*;
 use crate::records::{self, BodyRecord};
 use crate::solver::{make_soft, StepContext};
 use crate::solver_set::AWAKE_SET;
+use crate::world::World;
 
-/// Joints after prepare, and the states of their bodies.
+/// The number of the post, on which gate 0 hangs.
+const POST: i32 = 32;
+
+/// Joints after prepare, the states of their bodies, and the world in which prepare finds the bodies.
 pub struct Wall {
     pub joints: Vec<JointSim>,
     pub states: Vec<BodyState>,
     pub context: StepContext,
+    pub world: World,
 }
 
 impl Wall {
     /// 0 is the door's joint, 1 the hip's and 2 the strut's; any other kind takes them in turn.
     pub fn new(kind: usize) -> Wall {
         let case = |k: i32| if kind < 3 { kind as i32 } else { k % 3 };
+        let gates = (0..32).map(|k| (k, gate_body(k)));
+        let world = records::world(gates.chain([(POST, post_body())]));
         Wall {
-            joints: (0..32).map(|k| gate_joint(case(k), k)).collect(),
+            joints: (0..32).map(|k| gate_joint(case(k), k, &world)).collect(),
             states: (0..32).map(gate_state).collect(),
             context: step(),
+            world,
         }
     }
 }
@@ -118,7 +126,7 @@ fn weld() -> WeldJoint {
     }
 }
 
-/// Gate k before prepare. The post has the number 32.
+/// Gate k before prepare.
 fn gate(case: i32, k: i32) -> JointSim {
     let (type_, union_) = match case {
         0 => (JointType::Revolute, JointUnion::Revolute(hinge())),
@@ -129,7 +137,7 @@ fn gate(case: i32, k: i32) -> JointSim {
     let turned = quat(0.03125, 0.0625, 0.046875, 0.996454);
     JointSim {
         joint_id: k,
-        body_id_a: if k == 0 { 32 } else { k - 1 },
+        body_id_a: if k == 0 { POST } else { k - 1 },
         body_id_b: k,
         type_,
         local_frame_a: Transform {
@@ -166,11 +174,7 @@ fn gate_body(k: i32) -> BodyRecord {
     }
 }
 
-/// What gate k hangs on.
-fn body_before(k: i32) -> BodyRecord {
-    if k > 0 {
-        return gate_body(k - 1);
-    }
+fn post_body() -> BodyRecord {
     BodyRecord {
         set_index: 0,
         local_index: 0,
@@ -182,15 +186,14 @@ fn body_before(k: i32) -> BodyRecord {
     }
 }
 
-fn gate_joint(case: i32, k: i32) -> JointSim {
+fn gate_joint(case: i32, k: i32, world: &World) -> JointSim {
     let prepare = match case {
         0 => prepare_revolute_joint,
         1 => prepare_spherical_joint,
         _ => prepare_weld_joint,
     };
     let mut joint = gate(case, k);
-    let world = records::world(&joint, &[body_before(k), gate_body(k)]);
-    prepare(&world, &mut joint, &step());
+    prepare(world, &mut joint, &step());
     joint
 }
 

@@ -302,10 +302,10 @@ pub fn one_body(joint: &JointSim, [a, b]: &[BodyRecord; 2]) -> bool {
         || (a.set_index, a.local_index) == (b.set_index, b.local_index)
 }
 
-/// A world in which the bodies of the joint are found.
-pub fn world(joint: &JointSim, bodies: &[BodyRecord; 2]) -> World {
+/// A world in which the bodies are found, each by its id.
+pub fn world(bodies: impl IntoIterator<Item = (i32, BodyRecord)>) -> World {
     let mut world = World::default();
-    for (id, body) in [joint.body_id_a, joint.body_id_b].into_iter().zip(bodies) {
+    for (id, body) in bodies {
         *place(&mut world.bodies, id) = Body {
             set_index: body.set_index,
             local_index: body.local_index,

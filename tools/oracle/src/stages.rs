@@ -42,7 +42,9 @@ pub fn prepare(kind: Kind, joint: &mut JointSim, context: &StepContext, bodies: 
         Spherical => prepare_spherical_joint,
         Weld => prepare_weld_joint,
     };
-    prepare(&records::world(joint, bodies), joint, context);
+    let ids = [joint.body_id_a, joint.body_id_b];
+    let world = records::world(ids.into_iter().zip(*bodies));
+    prepare(&world, joint, context);
 }
 
 pub fn warm_start(kind: Kind, joint: &mut JointSim, states: &mut [BodyState]) {

@@ -5,7 +5,7 @@ use Prim.Native.Nat.{ℕ, _+_, _-_, _%_, _≤_, _<_}
 use native.Mathlib.Omega.{arith}
 use lib.ListN.{length}
 use borrow.Author.Needs.{needs}
-use Rattle.call_list.proofs.Elements.{bodies-long, joints-long, worked-as, worked-none, turn-is}
+use Rattle.call_list.proofs.Elements.{bodies-long, joints-long, worked-warm, worked-solve, worked-none, turn-is}
 use Rattle.call_list.proofs.Lists.{accepted-early, Midst, midst-start, midst-more, midst-done, slot-low}
 use Rattle.call_list.proofs.run_calls.Statement.{statement}
 use Rattle.call_list.proofs.run_calls.Tie as tie
@@ -67,8 +67,8 @@ array-copy-out-b c = search needs
 velocities-of-requires : tie.Need-velocities-of-requires Inv-loop μ-loop
 velocities-of-requires c κs = search needs
 
-case-of-requires : tie.Need-case-of-requires Inv-loop μ-loop
-case-of-requires c κs = search needs
+stage-code-requires : tie.Need-stage-code-requires Inv-loop μ-loop
+stage-code-requires c κs = search needs
 
 mul-joint : tie.Need-mul-joint Inv-loop μ-loop
 mul-joint c = omega (arith, c .before .before .before .before .before .before .before .before .joint-place .ensures .0)
@@ -76,14 +76,8 @@ mul-joint c = omega (arith, c .before .before .before .before .before .before .b
 element-copy-out-joint : tie.Need-element-copy-out-joint Inv-loop μ-loop
 element-copy-out-joint c = omega (arith, c .before .before .before .before .before .before .before .before .joint-place .ensures .0)
 
-stage-as-revolute-requires : tie.Need-stage-as-revolute-requires Inv-loop μ-loop
-stage-as-revolute-requires c κs = search needs
-
-mul-t53 : tie.Need-mul-t53 Inv-loop μ-loop
-mul-t53 c = omega (arith, c .before .before .before .before .before .before .before .before .before .before .before .joint-place .ensures .0)
-
-element-set-from-next : tie.Need-element-set-from-next Inv-loop μ-loop
-element-set-from-next c = omega (arith, c .before .before .before .before .before .before .before .before .before .before .before .joint-place .ensures .0)
+warm-start-as-revolute-requires : tie.Need-warm-start-as-revolute-requires Inv-loop μ-loop
+warm-start-as-revolute-requires c κs = search needs
 
 mul-joint-2 : tie.Need-mul-joint-2 Inv-loop μ-loop
 mul-joint-2 c = omega (arith, c .before .before .before .before .before .before .before .before .joint-place .ensures .0)
@@ -91,14 +85,8 @@ mul-joint-2 c = omega (arith, c .before .before .before .before .before .before 
 element-copy-out-joint-2 : tie.Need-element-copy-out-joint-2 Inv-loop μ-loop
 element-copy-out-joint-2 c = omega (arith, c .before .before .before .before .before .before .before .before .joint-place .ensures .0)
 
-stage-as-spherical-requires : tie.Need-stage-as-spherical-requires Inv-loop μ-loop
-stage-as-spherical-requires c κs = search needs
-
-mul-t59 : tie.Need-mul-t59 Inv-loop μ-loop
-mul-t59 c = omega (arith, c .before .before .before .before .before .before .before .before .before .before .before .joint-place .ensures .0)
-
-element-set-from-next-2 : tie.Need-element-set-from-next-2 Inv-loop μ-loop
-element-set-from-next-2 c = omega (arith, c .before .before .before .before .before .before .before .before .before .before .before .joint-place .ensures .0)
+warm-start-as-spherical-requires : tie.Need-warm-start-as-spherical-requires Inv-loop μ-loop
+warm-start-as-spherical-requires c κs = search needs
 
 mul-joint-3 : tie.Need-mul-joint-3 Inv-loop μ-loop
 mul-joint-3 c = omega (arith, c .before .before .before .before .before .before .before .before .joint-place .ensures .0)
@@ -106,42 +94,96 @@ mul-joint-3 c = omega (arith, c .before .before .before .before .before .before 
 element-copy-out-joint-3 : tie.Need-element-copy-out-joint-3 Inv-loop μ-loop
 element-copy-out-joint-3 c = omega (arith, c .before .before .before .before .before .before .before .before .joint-place .ensures .0)
 
-stage-as-weld-requires : tie.Need-stage-as-weld-requires Inv-loop μ-loop
-stage-as-weld-requires c κs = search needs
+warm-start-as-weld-requires : tie.Need-warm-start-as-weld-requires Inv-loop μ-loop
+warm-start-as-weld-requires c κs = search needs
 
-mul-t65 : tie.Need-mul-t65 Inv-loop μ-loop
-mul-t65 c = omega (arith, c .before .before .before .before .before .before .before .before .before .before .before .joint-place .ensures .0)
+mul-joint-4 : tie.Need-mul-joint-4 Inv-loop μ-loop
+mul-joint-4 c = omega (arith, c .before .before .before .before .before .before .before .before .joint-place .ensures .0)
 
-element-set-from-next-3 : tie.Need-element-set-from-next-3 Inv-loop μ-loop
-element-set-from-next-3 c = omega (arith, c .before .before .before .before .before .before .before .before .before .before .before .joint-place .ensures .0)
+element-copy-out-joint-4 : tie.Need-element-copy-out-joint-4 Inv-loop μ-loop
+element-copy-out-joint-4 c = omega (arith, c .before .before .before .before .before .before .before .before .joint-place .ensures .0)
+
+solve-as-revolute-requires : tie.Need-solve-as-revolute-requires Inv-loop μ-loop
+solve-as-revolute-requires c κs = search needs
+
+staged-joint-requires : tie.Need-staged-joint-requires Inv-loop μ-loop
+staged-joint-requires c κs = search needs
+
+mul-left : tie.Need-mul-left Inv-loop μ-loop
+mul-left c = omega (arith, c .before .before .before .before .before .before .before .before .before .before .before .joint-place .ensures .0)
+
+element-set-from-left : tie.Need-element-set-from-left Inv-loop μ-loop
+element-set-from-left c = omega (arith, c .before .before .before .before .before .before .before .before .before .before .before .joint-place .ensures .0)
+
+mul-joint-5 : tie.Need-mul-joint-5 Inv-loop μ-loop
+mul-joint-5 c = omega (arith, c .before .before .before .before .before .before .before .before .joint-place .ensures .0)
+
+element-copy-out-joint-5 : tie.Need-element-copy-out-joint-5 Inv-loop μ-loop
+element-copy-out-joint-5 c = omega (arith, c .before .before .before .before .before .before .before .before .joint-place .ensures .0)
+
+solve-as-spherical-requires : tie.Need-solve-as-spherical-requires Inv-loop μ-loop
+solve-as-spherical-requires c κs = search needs
+
+staged-joint-requires-2 : tie.Need-staged-joint-requires-2 Inv-loop μ-loop
+staged-joint-requires-2 c κs = search needs
+
+mul-left-2 : tie.Need-mul-left-2 Inv-loop μ-loop
+mul-left-2 c = omega (arith, c .before .before .before .before .before .before .before .before .before .before .before .joint-place .ensures .0)
+
+element-set-from-left-2 : tie.Need-element-set-from-left-2 Inv-loop μ-loop
+element-set-from-left-2 c = omega (arith, c .before .before .before .before .before .before .before .before .before .before .before .joint-place .ensures .0)
+
+mul-joint-6 : tie.Need-mul-joint-6 Inv-loop μ-loop
+mul-joint-6 c = omega (arith, c .before .before .before .before .before .before .before .before .joint-place .ensures .0)
+
+element-copy-out-joint-6 : tie.Need-element-copy-out-joint-6 Inv-loop μ-loop
+element-copy-out-joint-6 c = omega (arith, c .before .before .before .before .before .before .before .before .joint-place .ensures .0)
+
+solve-as-weld-requires : tie.Need-solve-as-weld-requires Inv-loop μ-loop
+solve-as-weld-requires c κs = search needs
+
+staged-joint-requires-3 : tie.Need-staged-joint-requires-3 Inv-loop μ-loop
+staged-joint-requires-3 c κs = search needs
+
+mul-left-3 : tie.Need-mul-left-3 Inv-loop μ-loop
+mul-left-3 c = omega (arith, c .before .before .before .before .before .before .before .before .before .before .before .joint-place .ensures .0)
+
+element-set-from-left-3 : tie.Need-element-set-from-left-3 Inv-loop μ-loop
+element-set-from-left-3 c = omega (arith, c .before .before .before .before .before .before .before .before .before .before .before .joint-place .ensures .0)
+
+mul-again-a : tie.Need-mul-again-a Inv-loop μ-loop
+mul-again-a c = omega (arith, c .before .before .before .before .before .places-of .ensures .0, c .before .before .before .before .before .places-of .ensures .1)
+
+array-copy-out-again-a : tie.Need-array-copy-out-again-a Inv-loop μ-loop
+array-copy-out-again-a c = omega (arith, c .before .before .before .before .before .places-of .ensures .0, c .before .before .before .before .before .places-of .ensures .1)
 
 store-velocities-requires : tie.Need-store-velocities-requires Inv-loop μ-loop
 store-velocities-requires c κs = search needs
 
 mul-bodies : tie.Need-mul-bodies Inv-loop μ-loop
-mul-bodies c = omega (arith, c .before .before .before .before .before .before .places-of .ensures .0, c .before .before .before .before .before .before .places-of .ensures .1)
+mul-bodies c = omega (arith, c .before .before .before .before .before .before .before .places-of .ensures .0, c .before .before .before .before .before .before .before .places-of .ensures .1)
 
 array-set-from-bodies : tie.Need-array-set-from-bodies Inv-loop μ-loop
-array-set-from-bodies c = omega (arith, c .before .before .before .before .before .before .places-of .ensures .0, c .before .before .before .before .before .before .places-of .ensures .1)
+array-set-from-bodies c = omega (arith, c .before .before .before .before .before .before .before .places-of .ensures .0, c .before .before .before .before .before .before .before .places-of .ensures .1)
 
-mul-again : tie.Need-mul-again Inv-loop μ-loop
-mul-again c = omega (arith, c .before .before .before .before .before .before .places-of .ensures .0, c .before .before .before .before .before .before .places-of .ensures .1)
+mul-again-b : tie.Need-mul-again-b Inv-loop μ-loop
+mul-again-b c = omega (arith, c .before .before .before .before .before .before .before .places-of .ensures .0, c .before .before .before .before .before .before .before .places-of .ensures .1)
 
-array-copy-out-again : tie.Need-array-copy-out-again Inv-loop μ-loop
-array-copy-out-again c = omega (arith, c .before .before .before .before .before .before .places-of .ensures .0, c .before .before .before .before .before .before .places-of .ensures .1)
+array-copy-out-again-b : tie.Need-array-copy-out-again-b Inv-loop μ-loop
+array-copy-out-again-b c = omega (arith, c .before .before .before .before .before .before .before .places-of .ensures .0, c .before .before .before .before .before .before .before .places-of .ensures .1)
 
 store-velocities-requires-2 : tie.Need-store-velocities-requires-2 Inv-loop μ-loop
 store-velocities-requires-2 c κs = search needs
 
 mul-bodies-2 : tie.Need-mul-bodies-2 Inv-loop μ-loop
-mul-bodies-2 c = omega (arith, c .before .before .before .before .before .before .before .before .places-of .ensures .0, c .before .before .before .before .before .before .before .before .places-of .ensures .1)
+mul-bodies-2 c = omega (arith, c .before .before .before .before .before .before .before .before .before .places-of .ensures .0, c .before .before .before .before .before .before .before .before .before .places-of .ensures .1)
 
 array-set-from-bodies-2 : tie.Need-array-set-from-bodies-2 Inv-loop μ-loop
-array-set-from-bodies-2 c = omega (arith, c .before .before .before .before .before .before .before .before .places-of .ensures .0, c .before .before .before .before .before .before .before .before .places-of .ensures .1)
+array-set-from-bodies-2 c = omega (arith, c .before .before .before .before .before .before .before .before .before .places-of .ensures .0, c .before .before .before .before .before .before .before .before .before .places-of .ensures .1)
 
 add-i : tie.Need-add-i Inv-loop μ-loop
 add-i c =
-    let l = c .before .before .before .before .before .before .before .before .before .before .before .before .before .before in
+    let l = c .before .before .before .before .before .before .before .before .before .before .before .before .before .before .before in
     let e = l .before .before .before .before in
     let r = e .args in
     let none = accepted-early (r .scene) (r .list .now) (e .pre) in
@@ -149,35 +191,41 @@ add-i c =
 
 loop-less : tie.Need-loop-less Inv-loop μ-loop
 loop-less c =
-    let t = c .before .before .before .before .before .before .before .before .before .before .before .before .before .loop-test .taken in
+    let t = c .before .before .before .before .before .before .before .before .before .before .before .before .before .before .loop-test .taken in
     omega (arith, t)
 
 loop-again : tie.Need-loop-again Inv-loop μ-loop
 loop-again c =
-    let l = c .before .before .before .before .before .before .before .before .before .before .before .before .before .before in
+    let l = c .before .before .before .before .before .before .before .before .before .before .before .before .before .before .before in
     let e = l .before .before .before .before in
     let r = e .args in
     let none = accepted-early (r .scene) (r .list .now) (e .pre) in
     let w = l .loop .inv .2 in
     let t = l .loop .next in
-    let at = c .before .before .before .before .before .before .before .before .before .before .before .joint-place in
-    let places = c .before .before .before .before .before .before .before .before .places-of in
-    let seen = c .before .before .before .before .before .velocities-of in
-    let case = c .before .before .before .before .case-of in
-    let m = c .before .before .before .match in
+    let at = c .before .before .before .before .before .before .before .before .before .before .before .before .joint-place in
+    let places = c .before .before .before .before .before .before .before .before .before .places-of in
+    let seen = c .before .before .before .before .before .before .velocities-of in
+    let code = c .before .before .before .before .before .stage-code in
+    let m = c .before .before .before .before .match in
     let a = c .before .before .store-velocities in
     let b = c .store-velocities2 in
     let left =
     ⊎-elim
-    (λ z. worked-as t (at .result) _ _ _ _ _ _ (case .result) (m .next) (m .v) 0 (z .3 .result) (case .ensures) (z .0 .keys1) (z .3 .ensures) (z .5) (z .6))
+    (λ z. worked-warm t (at .result) _ _ _ _ _ _ (code .result) (m .next) (m .v) (code .ensures) 0 (z .0 .keys1) (omega arith) (z .4 ∙ z .2 .ensures) (z .3))
     (⊎-elim
-    (λ z. worked-as t (at .result) _ _ _ _ _ _ (case .result) (m .next) (m .v) 1 (z .3 .result) (case .ensures) (z .0 .keys2) (z .3 .ensures) (z .5) (z .6))
+    (λ z. worked-warm t (at .result) _ _ _ _ _ _ (code .result) (m .next) (m .v) (code .ensures) 1 (z .0 .keys2) (omega arith) (z .4 ∙ z .2 .ensures) (z .3))
     (⊎-elim
-    (λ z. worked-as t (at .result) _ _ _ _ _ _ (case .result) (m .next) (m .v) 2 (z .3 .result) (case .ensures) (z .0 .keys3) (z .3 .ensures) (z .5) (z .6))
-    (λ z. worked-none t (at .result) _ _ _ _ _ _ (case .result) (m .next) (m .v) (case .ensures) (z .0 .rest .0 .0 .1) (z .0 .rest .0 .1) (z .0 .rest .1) (z .1) (z .2 ∙ seen .ensures))))
+    (λ z. worked-warm t (at .result) _ _ _ _ _ _ (code .result) (m .next) (m .v) (code .ensures) 2 (z .0 .keys3) (omega arith) (z .4 ∙ z .2 .ensures) (z .3))
+    (⊎-elim
+    (λ z. worked-solve t (at .result) _ _ _ _ _ _ (code .result) (m .next) (m .v) (code .ensures) 0 (z .2 .result) (z .3 .result) (z .0 .keys4) (omega arith) (z .2 .ensures) (z .3 .ensures) (z .5) (z .6))
+    (⊎-elim
+    (λ z. worked-solve t (at .result) _ _ _ _ _ _ (code .result) (m .next) (m .v) (code .ensures) 1 (z .2 .result) (z .3 .result) (z .0 .keys5) (omega arith) (z .2 .ensures) (z .3 .ensures) (z .5) (z .6))
+    (⊎-elim
+    (λ z. worked-solve t (at .result) _ _ _ _ _ _ (code .result) (m .next) (m .v) (code .ensures) 2 (z .2 .result) (z .3 .result) (z .0 .keys6) (omega arith) (z .2 .ensures) (z .3 .ensures) (z .5) (z .6))
+    (λ z. worked-none t (at .result) _ _ _ _ _ _ (code .result) (m .next) (m .v) (code .ensures) (z .0 .rest .0 .0 .0 .0 .0 .1) (z .0 .rest .0 .0 .0 .0 .1) (z .0 .rest .0 .0 .0 .1) (z .0 .rest .0 .0 .1) (z .0 .rest .0 .1) (z .0 .rest .1) (z .1) (z .2 ∙ seen .ensures)))))))
     (m .came)
     in
-    let room : l .loop .i + 1 < length (r .list .now) = omega (arith, none .even, l .loop .inv .1, c .before .before .before .before .before .before .before .before .before .before .before .before .before .loop-test .taken) in
+    let room : l .loop .i + 1 < length (r .list .now) = omega (arith, none .even, l .loop .inv .1, c .before .before .before .before .before .before .before .before .before .before .before .before .before .before .loop-test .taken) in
     let low = slot-low (r .scene) (r .list .now) t (l .loop .bodies) (l .loop .i) w room (none .few-joints) in
     let turn =
     turn-is t (w .us) (l .loop .bodies) _ _ (at .result) (places .result .a) (places .result .b) _ _ (a .result) (b .result) _ _ (m .v)
@@ -209,9 +257,12 @@ returns c =
 pub run-calls-spec : {M : Type 1} → statement M
 run-calls-spec =
     tie.close
-    (tie.spec Inv-loop μ-loop with-identity-requires loop-holds shared-slice-read-joint-place joint-place-requires add-stage shared-slice-read-stage mul-named element-copy-out-named places-of-requires mul-a array-copy-out-a mul-b array-copy-out-b
-    velocities-of-requires case-of-requires
-    mul-joint element-copy-out-joint stage-as-revolute-requires mul-t53 element-set-from-next
-    mul-joint-2 element-copy-out-joint-2 stage-as-spherical-requires mul-t59 element-set-from-next-2
-    mul-joint-3 element-copy-out-joint-3 stage-as-weld-requires mul-t65 element-set-from-next-3
-    store-velocities-requires mul-bodies array-set-from-bodies mul-again array-copy-out-again store-velocities-requires-2 mul-bodies-2 array-set-from-bodies-2 add-i loop-less loop-again without-identity-requires returns)
+    (tie.spec
+    Inv-loop μ-loop with-identity-requires loop-holds shared-slice-read-joint-place joint-place-requires add-stage shared-slice-read-stage mul-named
+    element-copy-out-named places-of-requires mul-a array-copy-out-a mul-b array-copy-out-b velocities-of-requires stage-code-requires mul-joint
+    element-copy-out-joint warm-start-as-revolute-requires mul-joint-2 element-copy-out-joint-2 warm-start-as-spherical-requires mul-joint-3
+    element-copy-out-joint-3 warm-start-as-weld-requires mul-joint-4 element-copy-out-joint-4 solve-as-revolute-requires staged-joint-requires
+    mul-left element-set-from-left mul-joint-5 element-copy-out-joint-5 solve-as-spherical-requires staged-joint-requires-2 mul-left-2
+    element-set-from-left-2 mul-joint-6 element-copy-out-joint-6 solve-as-weld-requires staged-joint-requires-3 mul-left-3 element-set-from-left-3
+    mul-again-a array-copy-out-again-a store-velocities-requires mul-bodies array-set-from-bodies mul-again-b array-copy-out-again-b
+    store-velocities-requires-2 mul-bodies-2 array-set-from-bodies-2 add-i loop-less loop-again without-identity-requires returns)

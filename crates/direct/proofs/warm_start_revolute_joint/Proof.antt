@@ -1,15 +1,22 @@
--- `warm_start_revolute_joint` meets its contract: it is the thin function of `ThinWarmStart.antt`, at kind 0. Assumes nothing.
+-- `warm_start_revolute_joint` meets its contract: it is the function of `WarmStart.antt`, at kind 0 and `warm_start_as_revolute`. Assumes nothing.
 use contract.Running.{givenOf, tables, tablesOf}
 use denote.Triple.Spec.{tripleOf}
 use denote.Triple.Table.{entered, cited}
-use Rattle.direct.proofs.Thin.{Direct}
-use Rattle.direct.proofs.ThinWarmStart.{Make, thin-meets}
-use Rattle.direct.proofs.call.warm_start_call.Symbol as make-def
-use Rattle.direct.proofs.call.warm_start_call.Symbol.{name as #make}
-use Rattle.direct.proofs.call.warm_start_call.Met as make-thm
-use Rattle.direct.proofs.direct_call.Symbol as direct-def
-use Rattle.direct.proofs.direct_call.Symbol.{name as #direct}
-use Rattle.direct.proofs.direct_call.Met as direct-thm
+use Rattle.direct.proofs.Calls.{Read, Write}
+use Rattle.direct.proofs.Stages.{Find, WarmStartAs}
+use Rattle.direct.proofs.WarmStart.{meets}
+use Rattle.direct.proofs.places.find_places.Symbol as find-def
+use Rattle.direct.proofs.places.find_places.Symbol.{name as #find}
+use Rattle.direct.proofs.places.find_places.Met as find-thm
+use Rattle.direct.proofs.states.read_states.Symbol as read-def
+use Rattle.direct.proofs.states.read_states.Symbol.{name as #read}
+use Rattle.direct.proofs.states.read_states.Met as read-thm
+use Rattle.joint.proofs.stage.warm_start_as_revolute.Symbol as stage-def
+use Rattle.joint.proofs.stage.warm_start_as_revolute.Symbol.{name as #stage}
+use Rattle.joint.proofs.stage.warm_start_as_revolute.Met as stage-thm
+use Rattle.direct.proofs.states.write_states.Symbol as write-def
+use Rattle.direct.proofs.states.write_states.Symbol.{name as #write}
+use Rattle.direct.proofs.states.write_states.Met as write-thm
 use Rattle.direct.proofs.warm_start_revolute_joint.Key.{name as #self}
 use Rattle.direct.proofs.warm_start_revolute_joint as self
 use Rattle.direct.proofs.warm_start_revolute_joint.Statement as stated
@@ -20,6 +27,8 @@ unfolding code.routine tablesOf
 warm-start-revolute-joint-spec 𝓤 H 𝓜 𝓖 𝓡 =
     entered 𝓤 H (tripleOf 𝓤 H (𝓖 .A) self.signature (self.spec 𝓤 H (𝓖 .A) (𝓜 .mem) (𝓡 .run)))
     (tables 𝓤 H 𝓜 𝓡 code.env .C) (tables 𝓤 H 𝓜 𝓡 code.env .Λ) #self code.function (code.unfolded 𝓤 H 𝓜 𝓡)
-    (thin-meets 0 tt 𝓤 H (𝓖 .A) (givenOf 𝓤 H 𝓜 𝓖) (𝓜 .mem) (𝓡 .run) (tablesOf 𝓤 H 𝓜 (tables 𝓤 H 𝓜 𝓡 code.env))
-    (cited 𝓤 H (Make 𝓤 H (𝓖 .A) (𝓜 .mem) (𝓡 .run)) 𝓜 𝓡 code.env #make make-def.routine code.calls-direct·call·warm-start-call (make-thm.met 𝓤 H 𝓜 𝓖 𝓡))
-    (cited 𝓤 H (Direct 𝓤 H (𝓖 .A) (𝓜 .mem) (𝓡 .run)) 𝓜 𝓡 code.env #direct direct-def.routine code.calls-direct·direct-call (direct-thm.met 𝓤 H 𝓜 𝓖 𝓡)))
+    (meets 0 tt #stage 𝓤 H (𝓖 .A) (givenOf 𝓤 H 𝓜 𝓖) (𝓜 .mem) (𝓡 .run) (tablesOf 𝓤 H 𝓜 (tables 𝓤 H 𝓜 𝓡 code.env))
+    (cited 𝓤 H (Find 𝓤 H (𝓖 .A) (𝓜 .mem) (𝓡 .run)) 𝓜 𝓡 code.env #find find-def.routine code.calls-direct·places·find-places (find-thm.met 𝓤 H 𝓜 𝓖 𝓡))
+    (cited 𝓤 H (Read 𝓤 H (𝓖 .A) (𝓜 .mem) (𝓡 .run)) 𝓜 𝓡 code.env #read read-def.routine code.calls-direct·states·read-states (read-thm.met 𝓤 H 𝓜 𝓖 𝓡))
+    (cited 𝓤 H (WarmStartAs 𝓤 H (𝓖 .A) 0) 𝓜 𝓡 code.env #stage stage-def.routine code.calls-joint·stage·warm-start-as-revolute (stage-thm.met 𝓤 H 𝓜 𝓖 𝓡))
+    (cited 𝓤 H (Write 𝓤 H (𝓖 .A) (𝓜 .mem) (𝓡 .run)) 𝓜 𝓡 code.env #write write-def.routine code.calls-direct·states·write-states (write-thm.met 𝓤 H 𝓜 𝓖 𝓡)))

@@ -1,5 +1,5 @@
 -- `check::check_list` equals its definition: no call before the byte `i` has a cause. Assumes nothing.
-use mathlib.Core.Path.{_≡_, refl, sym, ap, _∙_}
+use mathlib.Core.Path.{_≡_, refl, sym, _∙_}
 use Prim.Native.Nat.{ℕ, _+_, _-_, _≤_, _<_}
 use native.Mathlib.Omega.{arith}
 use lib.ListN.{length, drop}
@@ -12,10 +12,10 @@ use Rattle.call_list.proofs.check.check_list.Statement.{statement}
 use Rattle.call_list.proofs.check.check_list.Tie as tie
 
 abbrev Inv-loop : tie.InvT-loop
-Inv-loop list scene n early i₀ place₀ i place = (i ≤ n) × (i ≡ place + place) × (firstCause scene place (calls (drop i list)) ≡ firstCause scene 0 (calls list))
+Inv-loop scene list n early causes i₀ place₀ i place = (i ≤ n) × (i ≡ place + place) × (firstCause scene place (calls (drop i list)) ≡ firstCause scene 0 (calls list))
 
 abbrev μ-loop : tie.MeasureT-loop
-μ-loop list scene n early i₀ place₀ i place = n - i
+μ-loop scene list n early causes i₀ place₀ i place = n - i
 
 early-cause-requires : tie.Need-early-cause-requires Inv-loop μ-loop
 early-cause-requires c κs = search needs
@@ -23,7 +23,10 @@ early-cause-requires c κs = search needs
 returns : tie.Need-returns Inv-loop μ-loop
 returns c =
     let r = c .before .before .before .args in
-    verdict-early (r .t1) (r .list .now) (c .before .early-cause .result) (c .before .early-cause .ensures) (c .if1 .taken)
+    verdict-early (r .scene) (r .list .now) (c .before .early-cause .result) (c .before .early-cause .ensures) (c .if1 .taken)
+
+joint-causes-requires : tie.Need-joint-causes-requires Inv-loop μ-loop
+joint-causes-requires c κs = search needs
 
 loop-holds : tie.Need-loop-holds Inv-loop μ-loop
 loop-holds c = (search needs, search needs, refl)
@@ -34,83 +37,85 @@ shared-slice-read-slot c = search needs
 joint-place-requires : tie.Need-joint-place-requires Inv-loop μ-loop
 joint-place-requires c κs = search needs
 
-mul-joint : tie.Need-mul-joint Inv-loop μ-loop
-mul-joint c = search needs
+mul-of-joint : tie.Need-mul-of-joint Inv-loop μ-loop
+mul-of-joint c = search needs
 
-element-copy-out-joint : tie.Need-element-copy-out-joint Inv-loop μ-loop
-element-copy-out-joint c = search needs
+array-read-of-joint : tie.Need-array-read-of-joint Inv-loop μ-loop
+array-read-of-joint c = search needs
 
-add-cause-of : tie.Need-add-cause-of Inv-loop μ-loop
-add-cause-of c = search needs
+add-call-cause : tie.Need-add-call-cause Inv-loop μ-loop
+add-call-cause c = search needs
 
-shared-slice-read-cause-of : tie.Need-shared-slice-read-cause-of Inv-loop μ-loop
-shared-slice-read-cause-of c =
-    let l = c .before .before .before .before .before in
-    let e = l .before in
+shared-slice-read-call-cause : tie.Need-shared-slice-read-call-cause Inv-loop μ-loop
+shared-slice-read-call-cause c =
+    let l = c .before .before .before .before in
+    let e = l .before .before in
     let r = e .before .before .before .args in
-    let none = early-none (r .t1 .«body_count») (r .t1 .«joint_count») (length (r .list .now)) (sym (e .before .early-cause .ensures) ∙ e .if1 .left) in
-    omega (arith, none .even, l .loop .inv .1, c .before .before .before .before .loop-test .taken)
+    let none = early-none (r .scene .«body_count») (r .scene .«joint_count») (length (r .list .now)) (sym (e .before .early-cause .ensures) ∙ e .if1 .left) in
+    omega (arith, none .even, l .loop .inv .1, c .before .before .before .loop-test .taken)
 
-cause-of-requires : tie.Need-cause-of-requires Inv-loop μ-loop
-cause-of-requires c κs = search needs
+call-cause-requires : tie.Need-call-cause-requires Inv-loop μ-loop
+call-cause-requires c κs = search needs
 
 returns-2 : tie.Need-returns-2 Inv-loop μ-loop
 returns-2 c =
-    let l = c .before .before .before .before .before .before .before in
-    let e = l .before in
+    let l = c .before .before .before .before .before .before in
+    let e = l .before .before in
     let r = e .before .before .before .args in
-    let none = early-none (r .t1 .«body_count») (r .t1 .«joint_count») (length (r .list .now)) (sym (e .before .early-cause .ensures) ∙ e .if1 .left) in
+    let none = early-none (r .scene .«body_count») (r .scene .«joint_count») (length (r .list .now)) (sym (e .before .early-cause .ensures) ∙ e .if1 .left) in
     let t = l .loop .inv in
     let k = c .before in
-    let o = k .before .before .before in
+    let o = k .before .before in
     let room : l .loop .i + 1 < length (r .list .now) = omega (arith, none .even, t .1, o .before .before .loop-test .taken) in
-    let long = joints-long (r .t1) (e .before .before .before .good .0 .1 .1 .0 .1 .0 .1) in
-    let cause = cause-is (r .t1) _ _ (o .joint-place .result) _ (k .cause-of .result) long (none .few-joints) (o .joint-place .ensures .1) (k .cause-of .ensures) in
-    check-stop (r .list .now) (l .loop .i) (r .t1) (l .loop .place) _ (t .2) (k .cause-of .result) room cause (c .if2 .taken)
-    ∙ verdict-late (r .t1) (r .list .now) (e .before .early-cause .result) (e .before .early-cause .ensures) (e .if1 .left)
+    let long = joints-long (r .scene) (e .before .before .before .good .0 .1 .1 .0 .1 .0 .1) in
+    let cause = cause-is (r .scene) (l .before .joint-causes .result) _ _ (o .joint-place .result) _ (k .call-cause .result) long (none .few-joints) (l .before .joint-causes .ensures) (o .joint-place .ensures .1) (k .call-cause .ensures) in
+    check-stop (r .list .now) (l .loop .i) (r .scene) (l .loop .place) _ (t .2) (k .call-cause .result) room cause (c .if2 .taken)
+    ∙ verdict-late (r .scene) (r .list .now) (e .before .early-cause .result) (e .before .early-cause .ensures) (e .if1 .left)
 
 add-i : tie.Need-add-i Inv-loop μ-loop
 add-i c =
-    let l = c .before .before .before .before .before .before .before in
-    let e = l .before in
+    let l = c .before .before .before .before .before .before in
+    let e = l .before .before in
     let r = e .before .before .before .args in
-    let none = early-none (r .t1 .«body_count») (r .t1 .«joint_count») (length (r .list .now)) (sym (e .before .early-cause .ensures) ∙ e .if1 .left) in
+    let none = early-none (r .scene .«body_count») (r .scene .«joint_count») (length (r .list .now)) (sym (e .before .early-cause .ensures) ∙ e .if1 .left) in
     omega (arith, none .short, l .loop .inv .0)
 
 add-place : tie.Need-add-place Inv-loop μ-loop
 add-place c =
-    let l = c .before .before .before .before .before .before .before in
-    let e = l .before in
+    let l = c .before .before .before .before .before .before in
+    let e = l .before .before in
     let r = e .before .before .before .args in
-    let none = early-none (r .t1 .«body_count») (r .t1 .«joint_count») (length (r .list .now)) (sym (e .before .early-cause .ensures) ∙ e .if1 .left) in
+    let none = early-none (r .scene .«body_count») (r .scene .«joint_count») (length (r .list .now)) (sym (e .before .early-cause .ensures) ∙ e .if1 .left) in
     omega (arith, none .short, l .loop .inv .0, l .loop .inv .1)
 
 loop-less : tie.Need-loop-less Inv-loop μ-loop
-loop-less c = omega (arith, c .before .before .before .before .before .before .loop-test .taken)
+loop-less c = omega (arith, c .before .before .before .before .before .loop-test .taken)
 
 loop-again : tie.Need-loop-again Inv-loop μ-loop
 loop-again c =
-    let l = c .before .before .before .before .before .before .before in
-    let e = l .before in
+    let l = c .before .before .before .before .before .before in
+    let e = l .before .before in
     let r = e .before .before .before .args in
-    let none = early-none (r .t1 .«body_count») (r .t1 .«joint_count») (length (r .list .now)) (sym (e .before .early-cause .ensures) ∙ e .if1 .left) in
+    let none = early-none (r .scene .«body_count») (r .scene .«joint_count») (length (r .list .now)) (sym (e .before .early-cause .ensures) ∙ e .if1 .left) in
     let t = l .loop .inv in
     let k = c .before in
-    let o = k .before .before .before in
+    let o = k .before .before in
     let room : l .loop .i + 1 < length (r .list .now) = omega (arith, none .even, t .1, o .before .before .loop-test .taken) in
     let more : l .loop .i + 2 ≤ length (r .list .now) = omega (arith, room) in
     let twice : l .loop .i + 2 ≡ (l .loop .place + 1) + (l .loop .place + 1) = omega (arith, t .1) in
-    let long = joints-long (r .t1) (e .before .before .before .good .0 .1 .1 .0 .1 .0 .1) in
-    let cause = cause-is (r .t1) _ _ (o .joint-place .result) _ (k .cause-of .result) long (none .few-joints) (o .joint-place .ensures .1) (k .cause-of .ensures) in
-    (more, twice, check-more (r .list .now) (l .loop .i) (r .t1) (l .loop .place) _ (t .2) (k .cause-of .result) room cause (c .if2 .left))
+    let long = joints-long (r .scene) (e .before .before .before .good .0 .1 .1 .0 .1 .0 .1) in
+    let cause = cause-is (r .scene) (l .before .joint-causes .result) _ _ (o .joint-place .result) _ (k .call-cause .result) long (none .few-joints) (l .before .joint-causes .ensures) (o .joint-place .ensures .1) (k .call-cause .ensures) in
+    (more, twice, check-more (r .list .now) (l .loop .i) (r .scene) (l .loop .place) _ (t .2) (k .call-cause .result) room cause (c .if2 .left))
 
 returns-3 : tie.Need-returns-3 Inv-loop μ-loop
 returns-3 c =
     let l = c .before in
-    let e = l .before in
+    let e = l .before .before in
     let r = e .before .before .before .args in
-    check-end (r .list .now) (l .loop .i) (r .t1) (l .loop .place) _ (l .loop .inv .2) (omega (arith, c .loop-test .left))
-    ∙ verdict-late (r .t1) (r .list .now) (e .before .early-cause .result) (e .before .early-cause .ensures) (e .if1 .left)
+    check-end (r .list .now) (l .loop .i) (r .scene) (l .loop .place) _ (l .loop .inv .2) (omega (arith, c .loop-test .left))
+    ∙ verdict-late (r .scene) (r .list .now) (e .before .early-cause .result) (e .before .early-cause .ensures) (e .if1 .left)
 
 pub check-list-spec : {M : Type 1} → statement M
-check-list-spec = tie.close (tie.spec Inv-loop μ-loop early-cause-requires returns loop-holds shared-slice-read-slot joint-place-requires mul-joint element-copy-out-joint add-cause-of shared-slice-read-cause-of cause-of-requires returns-2 add-i add-place loop-less loop-again returns-3)
+check-list-spec =
+    tie.close
+    (tie.spec Inv-loop μ-loop early-cause-requires returns joint-causes-requires loop-holds shared-slice-read-slot joint-place-requires mul-of-joint array-read-of-joint add-call-cause shared-slice-read-call-cause call-cause-requires returns-2 add-i add-place loop-less loop-again returns-3)

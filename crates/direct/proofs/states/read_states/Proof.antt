@@ -35,7 +35,7 @@ use Rattle.records.specs.declared.body.BodyState.{BodyState}
 use Rattle.direct.specs.declared.places.Places.{Places}
 use Rattle.joint.specs.declared.store.StatePair.{StatePair}
 use Rattle.direct.specs.Steps.{readStates}
-use Rattle.direct.proofs.Rows.{R, P, Q, val-p, vals-p, tells-p, made-p, typed-p, p-a, p-b, p-none, val-q, vals-q, made-q, typed-q, q-of, typed-s}
+use Rattle.direct.proofs.Rows.{R, P, Q, val-p, vals-p, tells-p, made-p, typed-p, p-a, p-b, val-q, vals-q, made-q, typed-q, q-of, typed-s}
 use Rattle.direct.proofs.Calls.{Load, calls-load}
 use Rattle.direct.proofs.states.load_state.Symbol as callee-def
 use Rattle.direct.proofs.states.load_state.Symbol.{name as #callee}
@@ -90,10 +90,10 @@ module _ {M : Type 1} (𝓤 : URA M) (H : Heap 𝓤) (A : Atoms 𝓤) (W : Given
         -- [0 what the slice owns; 1 its token; _k at 2 + 2 · (8 − k)]
         assigns ! (addr ! (from ! (fld ! refl (hop ! (look-in ! 16 (sub ! 0 refl (whole !))) (stop !))))) (from ! (stop !)) (init ! 8 refl (tt, tt)) $
         assigns ! (agg ! (and-then ! (load ! (from ! (stop !)) (look ! 8 refl)) (and-then ! (load ! (from ! (fld ! refl (stop !))) (look-in ! 16 (sub ! 1 refl (whole !)))) (no-more !)))) (from ! (stop !)) (init ! 6 refl (tt, (tt, (record { fits = room .0 }, tt)))) $
-        calls-load 𝓤 H A W mem run (named 0) κ q b o γ n ys refl room (p .a) (p .none) (p-a p p-is) (p-none p p-is) ! fm known (λ ν δ. (and-then ! (load ! (from ! (stop !)) (look ! 6 refl)) (and-then ! (load ! (from ! (fld ! refl (stop !))) (look-in ! 14 (sub ! 1 refl (whole !)))) (and-then ! (load ! (from ! (fld ! refl (stop !))) (look-in ! 14 (sub ! 3 refl (whole !)))) (no-more !))))) (λ a-is. land ! (from ! (stop !)) (init ! 12 refl (typed-s 𝓤 H A W (out .«state_a») a-is)) $
+        calls-load 𝓤 H A W mem run (named 0) κ q b o γ n ys refl room (p .a) (p-a p p-is) ! fm known (λ ν δ. (and-then ! (load ! (from ! (stop !)) (look ! 6 refl)) (and-then ! (load ! (from ! (fld ! refl (stop !))) (look-in ! 14 (sub ! 1 refl (whole !)))) (no-more !)))) (λ a-is. land ! (from ! (stop !)) (init ! 12 refl (typed-s 𝓤 H A W (out .«state_a») a-is)) $
         assigns ! (addr ! (from ! (fld ! refl (hop ! (look-in ! 16 (sub ! 0 refl (whole !))) (stop !))))) (from ! (stop !)) (init ! 4 refl (tt, tt)) $
         assigns ! (agg ! (and-then ! (load ! (from ! (stop !)) (look ! 4 refl)) (and-then ! (load ! (from ! (fld ! refl (stop !))) (look-in ! 16 (sub ! 1 refl (whole !)))) (no-more !)))) (from ! (stop !)) (init ! 2 refl (tt, (tt, (record { fits = room .0 }, tt)))) $
-        calls-load 𝓤 H A W mem run (named 0) κ q b o γ n ys refl room (p .b) (p .none) (p-b p p-is) (p-none p p-is) ! fm known (λ ν δ. (and-then ! (load ! (from ! (stop !)) (look ! 2 refl)) (and-then ! (load ! (from ! (fld ! refl (stop !))) (look-in ! 14 (sub ! 2 refl (whole !)))) (and-then ! (load ! (from ! (fld ! refl (stop !))) (look-in ! 14 (sub ! 3 refl (whole !)))) (no-more !))))) (λ b-is. land ! (from ! (stop !)) (init ! 10 refl (typed-s 𝓤 H A W (out .«state_b») b-is)) $
+        calls-load 𝓤 H A W mem run (named 0) κ q b o γ n ys refl room (p .b) (p-b p p-is) ! fm known (λ ν δ. (and-then ! (load ! (from ! (stop !)) (look ! 2 refl)) (and-then ! (load ! (from ! (fld ! refl (stop !))) (look-in ! 14 (sub ! 2 refl (whole !)))) (no-more !)))) (λ b-is. land ! (from ! (stop !)) (init ! 10 refl (typed-s 𝓤 H A W (out .«state_b») b-is)) $
         assigns ! (agg ! (and-then ! (load ! (from ! (stop !)) (look ! 12 refl)) (and-then ! (load ! (from ! (stop !)) (look ! 10 refl)) (no-more !)))) (from ! (stop !)) (init ! 18 refl (typed-q 𝓤 H A W out (q-of out a-is b-is))) $
         returns ! (look ! 18 refl) $ forget ! 2 refl $ forget ! 4 refl $ forget ! 6 refl $ forget ! 8 refl $ forget ! 10 refl $ forget ! 12 refl $ forget ! 14 refl $ forget ! 16 refl $ forget ! 18 refl $
         move ! (18 ∷ 19 ∷ []) $ free1 ! $ move ! (16 ∷ 17 ∷ []) $ free1 ! $ move ! (14 ∷ 15 ∷ []) $ free1 ! $ move ! (12 ∷ 13 ∷ []) $ free1 ! $ move ! (10 ∷ 11 ∷ []) $ free1 ! $ move ! (8 ∷ 9 ∷ []) $ free1 ! $ move ! (6 ∷ 7 ∷ []) $ free1 ! $ move ! (4 ∷ 5 ∷ []) $ free1 ! $ move ! (2 ∷ 3 ∷ []) $ free1 ! $ free0 ! $

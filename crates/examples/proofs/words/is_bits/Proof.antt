@@ -1,23 +1,14 @@
 -- `examples::words::is_bits` is safe: a float that equals itself is no NaN, so it has a pattern. Assumes nothing.
 use borrow.Author.Needs.{needs}
-use mathlib.Core.Path.{_≡_, sym}
-use mathlib.Core.Bool.{false, not, false≢true}
-use lib.Dec.{T}
-use lib.Ieee.{Float, nan, inf, fin, eq, ne, isNan}
+use Rattle.sqrt.proofs.Nans.{same-no-nan}
 use Rattle.examples.proofs.words.is_bits.Statement.{statement}
 use Rattle.examples.proofs.words.is_bits.Tie as tie
-
-no-nan : (x : Float) → ne x x ≡ false → T (not (isNan x))
-unfolding ne eq isNan
-no-nan nan h = absurd (false≢true (sym h))
-no-nan (inf s) h = tt
-no-nan (fin s m e) h = tt
 
 returns : tie.Need-returns
 returns c = search needs
 
 float-to-bits-result : tie.Need-float-to-bits-result
-float-to-bits-result c = no-nan (c .before .args .x) (c .if1 .left)
+float-to-bits-result c = same-no-nan (c .before .args .x) (c .if1 .left)
 
 returns-2 : tie.Need-returns-2
 returns-2 c = search needs

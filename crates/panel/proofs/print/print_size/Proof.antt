@@ -1,17 +1,8 @@
 -- `print::print_size` is safe: a float that equals itself is no NaN, so it has a pattern. Assumes nothing.
 use borrow.Author.Needs.{needs}
-use mathlib.Core.Path.{_≡_, sym}
-use mathlib.Core.Bool.{false, not, false≢true}
-use lib.Dec.{T}
-use lib.Ieee.{Float, nan, inf, fin, eq, ne, isNan}
+use Rattle.sqrt.proofs.Nans.{same-no-nan}
 use Rattle.panel.proofs.print.print_size.Statement.{statement}
 use Rattle.panel.proofs.print.print_size.Tie as tie
-
-same-no-nan : (x : Float) → ne x x ≡ false → T (not (isNan x))
-unfolding ne eq isNan
-same-no-nan nan h = absurd (false≢true (sym h))
-same-no-nan (inf s) h = tt
-same-no-nan (fin s m e) h = tt
 
 returns : tie.Need-returns
 returns c = search needs

@@ -1,0 +1,25 @@
+-- Pieces of MIR that a warm start and a solve share, and the joint's type in it. Definitions only, but for `joint-mir`. Assumes nothing.
+use mathlib.Core.Path.{_≡_, refl}
+use mathlib.Core.List.{[], _∷_}
+use Prim.Native.Nat.{ℕ}
+use mir.Syntax.{Ty, Body, erased, mut, tyRef, place, field, deref, copy, rvOpd, seq, assign, return, addrOf, aggregate}
+use Rattle.records.proofs.body.BodyState.Laws as Ts′
+use Rattle.records.proofs.joint.JointSim.Laws as Tj′
+use Rattle.direct.proofs.Rows.{J}
+
+-- the type of a local that holds a reference lent again
+abbrev pub slot : Ty → Ty
+slot τ = tyRef erased mut τ
+
+-- the slice at the local s is lent again, at the local j, by way of i
+abbrev pub lends : ℕ → ℕ → ℕ → Body → Body
+lends s i j b =
+    seq (assign (place i []) (addrOf (place s (field 0 ∷ deref Ts′.mir ∷ []))))
+    (seq (assign (place j []) (aggregate (copy (place i []) ∷ copy (place s (field 1 ∷ [])) ∷ []))) b)
+
+-- the answer is that of the places at the local p
+abbrev pub answers : ℕ → Body
+answers p = seq (assign (place 0 []) (rvOpd (copy (place p (field 0 ∷ []))))) return
+
+pub joint-mir : J .mir ≡ Tj′.mir ∷ []
+joint-mir = refl

@@ -1,0 +1,18 @@
+-- `stage::warm_start_as_revolute` equals its definition. Assumes nothing.
+use mathlib.Core.Path.{refl}
+use borrow.Author.Needs.{needs}
+use Rattle.joint.specs.Stage.{warmStartJoint, warmStartAs}
+use Rattle.joint.proofs.Signs.{not-of}
+use Rattle.joint.proofs.stage.warm_start_as_revolute.Statement.{statement}
+use Rattle.joint.proofs.stage.warm_start_as_revolute.Tie as tie
+
+returns : tie.Need-returns
+unfolding warmStartAs
+returns c = rw (not-of 0 1 2 3 (c .before .before .args .joint .«union_») refl refl refl (c .before .match .keys2), ← (c .velocities-of .ensures))
+
+returns-2 : tie.Need-returns-2
+unfolding warmStartAs warmStartJoint
+returns-2 c = rw (c .before .before .u .given .1, ← (c .warm-start-revolute .ensures))
+
+pub warm-start-as-revolute-spec : {M : Type 1} → statement M
+warm-start-as-revolute-spec = tie.close (tie.spec (λ c. search needs) (λ c κs. tt) returns (λ c κs. tt) returns-2)
