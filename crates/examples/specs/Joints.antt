@@ -4,9 +4,8 @@ use mathlib.Core.Bool.{true, false}
 use lib.IntN.{ℤ, pos}
 use lib.Ieee.{Float, nan}
 use Rattle.math_functions.specs.declared.types.Matrix3.{Matrix3}
-use Rattle.math_functions.specs.declared.types.Transform.{Transform}
 use Rattle.math_functions.specs.Float.{zero}
-use Rattle.math_functions.specs.Types.{vec3, matrix3, transform, vec2Zero, vec3Zero, vec3AxisX, vec3AxisY, vec3AxisZ, quatIdentity, mat3Zero}
+use Rattle.math_functions.specs.Types.{vec3, matrix3, vec2Zero, vec3Zero, vec3AxisX, vec3AxisY, vec3AxisZ, quatIdentity, mat3Zero, transformIdentity}
 use Rattle.solver.specs.declared.Softness.{Softness}
 use Rattle.solver.specs.declared.StepContext.{StepContext}
 use Rattle.solver.specs.Solver.{softness}
@@ -18,9 +17,6 @@ use Rattle.records.specs.declared.joint.JointUnion.{JointUnion}
 use Rattle.records.specs.declared.joint.JointUnion.the-variants.{Revolute, Spherical, Weld, Other}
 use Rattle.records.specs.declared.joint.RevoluteJoint.{RevoluteJoint}
 use Rattle.records.specs.declared.joint.WeldJoint.{WeldJoint}
-
-abbrev pub identityFrame : Transform
-identityFrame = transform vec3Zero quatIdentity
 
 abbrev pub noSoftness : Softness
 noSoftness = softness zero zero zero
@@ -51,8 +47,8 @@ jointBase type =
       «body_id_a» = pos 0;
       «body_id_b» = pos 0;
       «type_» = type;
-      «local_frame_a» = identityFrame;
-      «local_frame_b» = identityFrame;
+      «local_frame_a» = transformIdentity;
+      «local_frame_b» = transformIdentity;
       «inv_mass_a» = zero;
       «inv_mass_b» = zero;
       «inv_i_a» = mat3Zero;
@@ -78,8 +74,8 @@ weldJoint =
       «angular_impulse» = vec3Zero;
       «index_a» = pos 0;
       «index_b» = pos 0;
-      «frame_a» = identityFrame;
-      «frame_b» = identityFrame;
+      «frame_a» = transformIdentity;
+      «frame_b» = transformIdentity;
       «delta_center» = vec3Zero;
       «angular_mass» = mat3Zero;
     }
@@ -102,8 +98,8 @@ motorJoint maxMotorTorque motorSpeed =
       «upper_angle» = zero;
       «index_a» = pos 0;
       «index_b» = pos 0;
-      «frame_a» = identityFrame;
-      «frame_b» = identityFrame;
+      «frame_a» = transformIdentity;
+      «frame_b» = transformIdentity;
       «rotation_axis_z» = vec3Zero;
       «perp_axis_x» = vec3Zero;
       «perp_axis_y» = vec3Zero;

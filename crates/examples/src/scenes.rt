@@ -3,7 +3,7 @@
 use math_functions::types::MAT3_ZERO;
 use math_functions::types::Matrix3;
 use math_functions::types::QUAT_IDENTITY;
-use math_functions::types::Transform;
+use math_functions::types::TRANSFORM_IDENTITY;
 use math_functions::types::VEC2_ZERO;
 use math_functions::types::VEC3_ZERO;
 use math_functions::types::Vec3;
@@ -17,13 +17,6 @@ use records::joint::RevoluteJoint;
 use records::joint::WeldJoint;
 use solver::Softness;
 use solver::StepContext;
-
-pub fn identity_frame() -> Transform {
-    Transform {
-        p: VEC3_ZERO,
-        q: QUAT_IDENTITY,
-    }
-}
 
 pub fn no_softness() -> Softness {
     Softness {
@@ -55,8 +48,8 @@ pub fn joint_base(type_: JointType) -> JointBase {
         body_id_a: 0,
         body_id_b: 0,
         type_,
-        local_frame_a: identity_frame(),
-        local_frame_b: identity_frame(),
+        local_frame_a: TRANSFORM_IDENTITY,
+        local_frame_b: TRANSFORM_IDENTITY,
         inv_mass_a: 0.0,
         inv_mass_b: 0.0,
         inv_i_a: MAT3_ZERO,
@@ -82,8 +75,8 @@ pub fn weld_joint() -> WeldJoint {
         angular_impulse: VEC3_ZERO,
         index_a: 0,
         index_b: 0,
-        frame_a: identity_frame(),
-        frame_b: identity_frame(),
+        frame_a: TRANSFORM_IDENTITY,
+        frame_b: TRANSFORM_IDENTITY,
         delta_center: VEC3_ZERO,
         angular_mass: MAT3_ZERO,
     }
@@ -106,8 +99,8 @@ pub fn revolute_joint(max_motor_torque: f32, motor_speed: f32) -> RevoluteJoint 
         upper_angle: 0.0,
         index_a: 0,
         index_b: 0,
-        frame_a: identity_frame(),
-        frame_b: identity_frame(),
+        frame_a: TRANSFORM_IDENTITY,
+        frame_b: TRANSFORM_IDENTITY,
         rotation_axis_z: VEC3_ZERO,
         perp_axis_x: VEC3_ZERO,
         perp_axis_y: VEC3_ZERO,
