@@ -5,9 +5,10 @@ mod lists;
 
 ghost use Prim.Native.Nat.{_<_};
 use bench_wall::arguments::argument;
+use bench_wall::rows::write_checksum;
+use bench_wall::rows::write_row;
 use leaves::arctangents;
 use leaves::roots;
-use libc::STDOUT_FILENO;
 use lists::run_lists;
 
 // A row for each kind of joints and each kind of list, then the two leaves.
@@ -24,17 +25,10 @@ fn work(row: u8, repeats: u64) -> u32
     }
 }
 
-fn write_row(row: u8) {
-    io::print_decimal(STDOUT_FILENO, row as u64);
-    io::write_all(STDOUT_FILENO, b" ");
-    io::print_decimal(STDOUT_FILENO, work(row, 1) as u64);
-    io::write_all(STDOUT_FILENO, b"\n");
-}
-
 fn write_rows() {
     let mut row = 0u8;
     while row < ROWS {
-        write_row(row);
+        write_row(row, work(row, 1));
         row += 1;
     }
 }
@@ -47,7 +41,6 @@ fn main() {
     let row = argument(1);
     let repeats = argument(2);
     if row < 18 {
-        io::print_decimal(STDOUT_FILENO, work(row as u8, repeats) as u64);
-        io::write_all(STDOUT_FILENO, b"\n");
+        write_checksum(work(row as u8, repeats));
     }
 }

@@ -8,7 +8,8 @@ mod weld_rows;
 
 ghost use Prim.Native.Nat.{_<_};
 use bench_wall::arguments::argument;
-use libc::STDOUT_FILENO;
+use bench_wall::rows::write_checksum;
+use bench_wall::rows::write_row;
 
 // The rows of the bench before these are the program bench's.
 const FIRST: u8 = 18;
@@ -33,17 +34,10 @@ fn work(row: u8, repeats: u64) -> u32
     }
 }
 
-fn write_row(row: u8) {
-    io::print_decimal(STDOUT_FILENO, row as u64);
-    io::write_all(STDOUT_FILENO, b" ");
-    io::print_decimal(STDOUT_FILENO, work(row, 1) as u64);
-    io::write_all(STDOUT_FILENO, b"\n");
-}
-
 fn write_rows() {
     let mut row = FIRST;
     while row < END {
-        write_row(row);
+        write_row(row, work(row, 1));
         row += 1;
     }
 }
@@ -56,7 +50,6 @@ fn main() {
     let row = argument(1);
     let repeats = argument(2);
     if 18 <= row && row < 30 {
-        io::print_decimal(STDOUT_FILENO, work(row as u8, repeats) as u64);
-        io::write_all(STDOUT_FILENO, b"\n");
+        write_checksum(work(row as u8, repeats));
     }
 }
