@@ -10,6 +10,7 @@ use crate::quadratics::Quadratic;
 use crate::quadratics::UNIT;
 use crate::quadratics::quadratic_at;
 use std::num::wrapping_add_u64;
+use std::num::wrapping_sub_u32;
 use std::num::wrapping_sub_u64;
 
 mod quadratics;
@@ -21,8 +22,15 @@ const INFINITY: u32 = 0x7f80_0000;
 
 const MINUS_ZERO: u32 = 0x8000_0000;
 
+// How many patterns of positive normal numbers there are, from the least one up to the infinity's.
+const NORMALS: u32 = 0x7f00_0000;
+
 // The leading digit of a normal `f32`, which its pattern does not show.
 const HIDDEN_BIT: u64 = 1 << 23;
+
+// Added to a pattern before its exponent field is halved: the field's bias, 127, less 2, since the
+// root's hidden bit makes the halved field one more.
+const ROOT_BIAS: u64 = 125 * HIDDEN_BIT;
 
 // A significand is scaled by one of these, so that the exponent that is left is even and the root
 // has 24 digits.
@@ -96,15 +104,14 @@ fn raise_guess(n: u64, guess: u64) -> u64
 }
 
 // The whole number nearest to the root of n, from any guess. Nearly every guess is right, and the
-// result is then the guess itself, which waits for no loop.
+// result is then the guess itself, which waits for no loop. One test of the guess serves for both
+// sides: where n is above guess * guess + guess, the difference wraps and is large.
 fn nearest_root(n: u64, guess: u64) -> u64
     requires { ⌜ (0 < n) × (n < 2 ^ 48) × (guess < 2 ^ 32) ⌝ }
     ensures { λ r. ⌜ NearestRoot n r ⌝ }
 {
-    if n <= guess * guess + guess {
-        if guess * guess < n + guess {
-            return guess;
-        }
+    if wrapping_sub_u64(guess * guess + guess, n) < 2 * guess {
+        return guess;
     }
     raise_guess(n, lower_guess(n, guess))
 }
@@ -120,7 +127,7 @@ fn scaled_significand(m: u64, e: u64) -> u64
 }
 
 // The pattern of the root of a positive normal number, from its pattern. The root is
-// r * 2 ^ (k - 149), where k is (e + 102) / 2, and r has the hidden bit.
+// r * 2 ^ (k - 149), where k is half of 125 more than the exponent field, and r has the hidden bit.
 fn normal_root(b: u32) -> u32
     requires { ⌜ (2 ^ 23 ≤ b) × (b < 0x7f80_0000) ⌝ }
     ensures { λ r. ⌜ (ofBits binary32 r ≡ D.sqrt (ofBits binary32 b)) × (r < 0x7f80_0000) ⌝ }
@@ -129,10 +136,10 @@ fn normal_root(b: u32) -> u32
     let m = HIDDEN_BIT + bits % HIDDEN_BIT;
     let e = bits / HIDDEN_BIT + 23;
     let r = nearest_root(scaled_significand(m, e), estimate(bits));
-    ((e + 102) / 2 * HIDDEN_BIT + r) as u32
+    ((bits + ROOT_BIAS) / (2 * HIDDEN_BIT) * HIDDEN_BIT + r) as u32
 }
 
-// The same for a subnormal number. These are rare, so any guess will do.
+// The same for a subnormal number, where k is (e + 102) / 2. These are rare, so any guess will do.
 fn subnormal_root(b: u32) -> u32
     requires { ⌜ (0 < b) × (b < 2 ^ 23) ⌝ }
     ensures { λ r. ⌜ (ofBits binary32 r ≡ D.sqrt (ofBits binary32 b)) × (r < 0x7f80_0000) ⌝ }
@@ -144,7 +151,8 @@ fn subnormal_root(b: u32) -> u32
 }
 
 // The root of x, rounded to the nearest `f32`. The root of -0.0 is -0.0, and that of any other
-// number below zero is a NaN.
+// number below zero is a NaN. Only what is no NaN has bits to read, so the NaN comes first, and
+// then the positive normal numbers, by one test: below the least one the difference wraps.
 pub fn sqrt(x: f32) -> f32
     ensures { λ r. ⌜ r ≡ D.sqrt x ⌝ }
 {
@@ -152,10 +160,10 @@ pub fn sqrt(x: f32) -> f32
         return x;
     }
     let b = f32::to_bits(x);
+    if wrapping_sub_u32(b, LEAST_NORMAL) < NORMALS {
+        return f32::from_bits(normal_root(b));
+    }
     if b < INFINITY {
-        if LEAST_NORMAL <= b {
-            return f32::from_bits(normal_root(b));
-        }
         if 0 < b {
             return f32::from_bits(subnormal_root(b));
         }

@@ -21,6 +21,9 @@ returns c = at-nan (c .before .args .x) (c .if1 .taken)
 float-to-bits-b : tie.Need-float-to-bits-b
 float-to-bits-b c = same-no-nan (c .before .args .x) (c .if1 .left)
 
+wrapping-sub-u32-requires : tie.Need-wrapping-sub-u32-requires
+wrapping-sub-u32-requires c κs = search needs
+
 normal-root-requires : tie.Need-normal-root-requires
 normal-root-requires c κs = search needs
 
@@ -37,19 +40,19 @@ float-from-bits-result-2 : tie.Need-float-from-bits-result-2
 float-from-bits-result-2 c = finite-no-nan binary32 (c .subnormal-root .result) (c .subnormal-root .ensures .1)
 
 returns-3 : tie.Need-returns-3
-returns-3 c = let s = c .before .before .before .before .before in c .subnormal-root .ensures .0 ∙ ap sqrt (ofBits-toBits binary32 (s .args .x) (held s))
+returns-3 c = let s = c .before .before .before .before .before .before in c .subnormal-root .ensures .0 ∙ ap sqrt (ofBits-toBits binary32 (s .args .x) (held s))
 
 returns-4 : tie.Need-returns-4
-returns-4 c = let s = c .before .before .before .before in at-zero (s .args .x) (held s) (omega arith)
+returns-4 c = let s = c .before .before .before .before .before in at-zero (s .args .x) (held s) (omega arith)
 
 returns-5 : tie.Need-returns-5
-returns-5 c = let s = c .before .before .before in at-infinity (s .args .x) (held s) (omega arith)
+returns-5 c = let s = c .before .before .before .before .before in at-infinity (s .args .x) (held s) (omega arith)
 
 returns-6 : tie.Need-returns-6
-returns-6 c = let s = c .before .before .before .before in at-minus-zero (s .args .x) (held s) (omega arith)
+returns-6 c = let s = c .before .before .before .before .before .before in at-minus-zero (s .args .x) (held s) (omega arith)
 
 returns-7 : tie.Need-returns-7
-returns-7 c = let s = c .before .before .before .before in at-negative (s .args .x) (held s) (omega arith) (omega arith)
+returns-7 c = let s = c .before .before .before .before .before .before in at-negative (s .args .x) (held s) (omega arith) (omega arith)
 
 pub sqrt-spec : {M : Type 1} → statement M
 sqrt-spec =
@@ -57,6 +60,7 @@ sqrt-spec =
     (tie.spec
     returns
     float-to-bits-b
+    wrapping-sub-u32-requires
     normal-root-requires
     float-from-bits-result
     returns-2
