@@ -7,3 +7,4 @@ pub mod Quat
 pub mod Matrix
 pub mod Transform
 pub mod Constants
+pub mod Steps

@@ -1,6 +1,7 @@
 // Quaternion operations.
 ghost use mathlib.Core.Path.{_≡_};
 ghost use Rattle.math_functions.specs.Quat as D;
+ghost use Rattle.math_functions.specs.Steps as Steps;
 use crate::scalar::atan2;
 use crate::types::Quat;
 use crate::types::Vec3;
@@ -99,21 +100,30 @@ pub fn get_twist_angle(q: Quat) -> f32
     twist
 }
 
+// Component-wise quaternion subtraction.
+fn sub_quat(a: Quat, b: Quat) -> Quat
+    ensures { λ r. ⌜ r ≡ Steps.subQuat a b ⌝ }
+{
+    Quat {
+        v: sub(a.v, b.v),
+        s: a.s - b.s,
+    }
+}
+
 // Pseudo angular velocity from a quaternion target.
 // w = 2 * (target - q) * conj(q)
 pub fn delta_quat_to_rotation(q: Quat, target: Quat) -> Vec3
     ensures { λ r. ⌜ r ≡ D.deltaQuatToRotation q target ⌝ }
 {
+    // The difference is taken in the branch too, so that the compiler keeps the branch, which the
+    // processor foresees. A choice between two values would have to wait for the dot product.
     let mut s = q;
+    let mut diff = sub_quat(target, q);
     if dot_quat(q, target) < 0.0 {
         // Correct polarity
         s = negate_quat(q);
+        diff = sub_quat(target, s);
     }
-
-    let diff = Quat {
-        v: sub(target.v, s.v),
-        s: target.s - s.s,
-    };
     let product = mul_quat(diff, conjugate(s));
     mul_sv(2.0, product.v)
 }
