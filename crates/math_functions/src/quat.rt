@@ -3,6 +3,7 @@ ghost use mathlib.Core.Path.{_≡_};
 ghost use Rattle.math_functions.specs.Quat as D;
 ghost use Rattle.math_functions.specs.Steps as Steps;
 use crate::scalar::atan2;
+use crate::scalar::atan2_non_negative;
 use crate::types::Quat;
 use crate::types::Vec3;
 use crate::vector::cross;
@@ -135,5 +136,5 @@ pub fn get_swing_angle(q: Quat) -> f32
     // Polarity should not matter because all terms are squared.
     let x = sqrt(q.v.z * q.v.z + q.s * q.s);
     let y = sqrt(q.v.x * q.v.x + q.v.y * q.v.y);
-    2.0 * atan2(y, x)
+    2.0 * atan2_non_negative(y, x)
 }

@@ -1,6 +1,9 @@
 // Scalars: absolute value, minimum, maximum, clamp, and the arctangent.
 ghost use mathlib.Core.Path.{_≡_};
+ghost use mathlib.Core.Bool.{false};
+ghost use Rattle.math_functions.specs.Float.{lt, zero};
 ghost use Rattle.math_functions.specs.Scalar as D;
+ghost use Rattle.math_functions.specs.Steps as Steps;
 
 // The absolute value of a float. -0.0 stays as it is, since it is not below zero.
 pub fn abs_float(a: f32) -> f32
@@ -36,19 +39,13 @@ pub fn clamp_float(a: f32, lower: f32, upper: f32) -> f32
     }
 }
 
-// An approximate arctangent in the range [-pi, pi], the same on every machine.
-pub fn atan2(y: f32, x: f32) -> f32
-    ensures { λ r. ⌜ r ≡ D.atan2 y x ⌝ }
+// The angle of the point (x, y) in the first quadrant, where neither is below zero and one is above
+// it: an approximate arctangent of y / x.
+fn first_quadrant_angle(y: f32, x: f32) -> f32
+    ensures { λ r. ⌜ r ≡ Steps.firstQuadrantAngle y x ⌝ }
 {
-    // (0, 0) is tested since 0 / 0 would be a NaN
-    if x == 0.0 && y == 0.0 {
-        return 0.0;
-    }
-
-    let ax = abs_float(x);
-    let ay = abs_float(y);
-    let mx = max_float(ay, ax);
-    let mn = min_float(ay, ax);
+    let mx = max_float(y, x);
+    let mn = min_float(y, x);
     let a = mn / mx;
 
     // Minimax polynomial approximation to atan(a) on [0,1]
@@ -60,11 +57,27 @@ pub fn atan2(y: f32, x: f32) -> f32
     r = r * s + t;
     r = r * c + a;
 
-    // Map to full circle
-    if ay > ax {
+    if y > x {
         r = 1.57079637 - r;
     }
 
+    r
+}
+
+// An approximate arctangent in the range [-pi, pi], the same on every machine.
+pub fn atan2(y: f32, x: f32) -> f32
+    ensures { λ r. ⌜ r ≡ D.atan2 y x ⌝ }
+{
+    // (0, 0) is tested since 0 / 0 would be a NaN
+    if x == 0.0 && y == 0.0 {
+        return 0.0;
+    }
+
+    let ax = abs_float(x);
+    let ay = abs_float(y);
+    let mut r = first_quadrant_angle(ay, ax);
+
+    // Map to full circle
     if x < 0.0 {
         r = 3.14159274 - r;
     }
@@ -74,4 +87,16 @@ pub fn atan2(y: f32, x: f32) -> f32
     }
 
     r
+}
+
+// atan2 of a y and an x that are not below zero, such as square roots: it saves the time to look at
+// their signs. A NaN and -0.0 are not below zero.
+pub fn atan2_non_negative(y: f32, x: f32) -> f32
+    requires { ⌜ (lt y zero ≡ false) × (lt x zero ≡ false) ⌝ }
+    ensures { λ r. ⌜ r ≡ D.atan2 y x ⌝ }
+{
+    if x == 0.0 && y == 0.0 {
+        return 0.0;
+    }
+    first_quadrant_angle(y, x)
 }

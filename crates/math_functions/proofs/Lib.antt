@@ -1,0 +1,2 @@
+-- What the functions' proofs cite, on plain values. Assumes nothing.
+mod Roots
