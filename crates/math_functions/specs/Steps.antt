@@ -1,4 +1,4 @@
--- Steps inside the code of math_functions that the Rust does not have as functions. The public contracts do not cite them, so a reader of the contracts need not read them. Definitions only. Assumes nothing.
+-- Steps of the code that the Rust has inside its functions. No definition that is written from the Rust cites them. Definitions only. Assumes nothing.
 use mathlib.Core.Bool.{cond}
 use lib.Ieee.{Float}
 use Rattle.math_functions.specs.declared.types.Quat.{Quat}

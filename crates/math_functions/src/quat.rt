@@ -1,9 +1,12 @@
 // Quaternion operations.
 ghost use mathlib.Core.Path.{_≡_};
+ghost use mathlib.Core.Bool.{false};
+ghost use Rattle.math_functions.specs.Float.{lt, zero};
 ghost use Rattle.math_functions.specs.Quat as D;
+ghost use Rattle.math_functions.specs.Scalar as Scalar;
 ghost use Rattle.math_functions.specs.Steps as Steps;
 use crate::scalar::atan2;
-use crate::scalar::atan2_non_negative;
+use crate::scalar::first_quadrant_angle;
 use crate::types::Quat;
 use crate::types::Vec3;
 use crate::vector::cross;
@@ -127,6 +130,18 @@ pub fn delta_quat_to_rotation(q: Quat, target: Quat) -> Vec3
     }
     let product = mul_quat(diff, conjugate(s));
     mul_sv(2.0, product.v)
+}
+
+// atan2 of a y and an x that are not below zero, such as square roots: it saves the time to look at
+// their signs. A NaN and -0.0 are not below zero.
+fn atan2_non_negative(y: f32, x: f32) -> f32
+    requires { ⌜ (lt y zero ≡ false) × (lt x zero ≡ false) ⌝ }
+    ensures { λ r. ⌜ r ≡ Scalar.atan2 y x ⌝ }
+{
+    if x == 0.0 && y == 0.0 {
+        return 0.0;
+    }
+    first_quadrant_angle(y, x)
 }
 
 // Swing angle used for cone limit

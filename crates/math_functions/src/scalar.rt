@@ -1,7 +1,5 @@
 // Scalars: absolute value, minimum, maximum, clamp, and the arctangent.
 ghost use mathlib.Core.Path.{_≡_};
-ghost use mathlib.Core.Bool.{false};
-ghost use Rattle.math_functions.specs.Float.{lt, zero};
 ghost use Rattle.math_functions.specs.Scalar as D;
 ghost use Rattle.math_functions.specs.Steps as Steps;
 
@@ -41,7 +39,7 @@ pub fn clamp_float(a: f32, lower: f32, upper: f32) -> f32
 
 // The angle of the point (x, y) in the first quadrant, where neither is below zero and one is above
 // it: an approximate arctangent of y / x.
-fn first_quadrant_angle(y: f32, x: f32) -> f32
+pub fn first_quadrant_angle(y: f32, x: f32) -> f32
     ensures { λ r. ⌜ r ≡ Steps.firstQuadrantAngle y x ⌝ }
 {
     let mx = max_float(y, x);
@@ -87,16 +85,4 @@ pub fn atan2(y: f32, x: f32) -> f32
     }
 
     r
-}
-
-// atan2 of a y and an x that are not below zero, such as square roots: it saves the time to look at
-// their signs. A NaN and -0.0 are not below zero.
-pub fn atan2_non_negative(y: f32, x: f32) -> f32
-    requires { ⌜ (lt y zero ≡ false) × (lt x zero ≡ false) ⌝ }
-    ensures { λ r. ⌜ r ≡ D.atan2 y x ⌝ }
-{
-    if x == 0.0 && y == 0.0 {
-        return 0.0;
-    }
-    first_quadrant_angle(y, x)
 }

@@ -1,12 +1,12 @@
--- `scalar::atan2_non_negative` equals the definition of `atan2`: neither argument is below zero, so each is its own absolute value, and no sign is turned. Assumes nothing.
+-- `quat::atan2_non_negative` equals the definition of `atan2`: neither argument is below zero, so each is its own absolute value, and no sign is turned. Assumes nothing.
 use mathlib.Core.Path.{_≡_}
 use mathlib.Core.Logic.{⊎-elim}
 use mathlib.Core.Bool.{false, _&&_}
 use Rattle.math_functions.specs.Float.{eq, zero}
 use Rattle.math_functions.specs.Scalar.{absFloat, atan2}
 use Rattle.math_functions.specs.Steps.{firstQuadrantAngle}
-use Rattle.math_functions.proofs.scalar.atan2_non_negative.Statement.{statement}
-use Rattle.math_functions.proofs.scalar.atan2_non_negative.Tie as tie
+use Rattle.math_functions.proofs.quat.atan2_non_negative.Statement.{statement}
+use Rattle.math_functions.proofs.quat.atan2_non_negative.Tie as tie
 
 returns : tie.Need-returns
 unfolding atan2
