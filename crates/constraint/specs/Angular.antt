@@ -17,7 +17,7 @@ use Rattle.constraint.specs.declared.angular.AxialRow.{AxialRow}
 use Rattle.constraint.specs.declared.angular.Row3.{Row3}
 use Rattle.constraint.specs.declared.angular.LimitRows.{LimitRows}
 use Rattle.constraint.specs.Velocity.{applyAxial, applyAxialFlipped, applyAngular}
-use Rattle.constraint.specs.Soft.{limitBias, limitImpulse, softImpulse3}
+use Rattle.constraint.specs.Soft.{limitBias, limitSum, limitImpulse, softImpulse3}
 
 abbrev pub axialRow : Float → Velocities → AxialRow
 axialRow impulse velocities = record { impulse = impulse; velocities = velocities }
@@ -31,6 +31,10 @@ limitRows lowerImpulse upperImpulse velocities = record { «lower_impulse» = lo
 -- a row with a switch is worked if that is on and rotation is not fixed
 unfoldable pub isWorked : Bool → Bool → Bool
 isWorked enabled fixedRotation = enabled && not fixedRotation
+
+-- the sum of a lower limit's row, which `lowerLimitRow` keeps from falling below zero
+unfoldable pub lowerLimitSum : SoftBias → Float → Vec3 → Float → Velocities → Float
+lowerLimitSum s mass axis oldImpulse v = limitSum s mass (dot (sub (v .«w_b») (v .«w_a»)) axis) oldImpulse
 
 -- revolute's lower limit, spherical's lower twist limit
 unfoldable pub lowerLimitRow : SoftBias → Float → Vec3 → Float → InvMasses → Velocities → AxialRow

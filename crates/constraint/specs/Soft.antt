@@ -47,9 +47,12 @@ limitBias c s invH useBias = cond (gt c zero) (scaled (c ⊗ invH) one zero) (co
 unfoldable pub softImpulse : SoftBias → Float → Float → Float → Float
 softImpulse s mass cdot oldImpulse = neg (s .«mass_scale») ⊗ mass ⊗ (cdot ⊕ s .bias) ⊖ s .«impulse_scale» ⊗ oldImpulse
 
--- document 01's limit rows: the impulse becomes max_float(sum, 0.0)
+-- document 01's limit rows: the sum, and the impulse becomes max_float(sum, 0.0)
+unfoldable pub limitSum : SoftBias → Float → Float → Float → Float
+limitSum s mass cdot oldImpulse = oldImpulse ⊕ softImpulse s mass cdot oldImpulse
+
 unfoldable pub limitImpulse : SoftBias → Float → Float → Float → Float
-limitImpulse s mass cdot oldImpulse = maxFloat (oldImpulse ⊕ softImpulse s mass cdot oldImpulse) zero
+limitImpulse s mass cdot oldImpulse = maxFloat (limitSum s mass cdot oldImpulse) zero
 
 -- weld's rows, spherical's spring and point row
 unfoldable pub softImpulse3 : SoftBias3 → Vec3 → Vec3 → Vec3

@@ -4,11 +4,11 @@ ghost use Rattle.constraint.specs.Angular as D;
 use crate::soft::SoftBias;
 use crate::soft::SoftBias3;
 use crate::soft::limit_impulse;
+use crate::soft::limit_sum;
 use crate::soft::soft_impulse3;
 use crate::velocity::InvMasses;
 use crate::velocity::Velocities;
 use crate::velocity::apply_angular;
-use crate::velocity::apply_axial;
 use crate::velocity::apply_axial_flipped;
 use math_functions::matrix::mul_mv;
 use math_functions::types::Matrix3;
@@ -43,24 +43,12 @@ pub fn is_worked(enabled: bool, fixed_rotation: bool) -> bool
     enabled && !fixed_rotation
 }
 
-// A lower limit: its accumulated impulse turns B up about the axis, and is never below zero.
-pub fn lower_limit_row(
-    s: SoftBias,
-    mass: f32,
-    axis: Vec3,
-    old_impulse: f32,
-    m: InvMasses,
-    v: Velocities,
-) -> AxialRow
-    ensures { λ r. ⌜ r ≡ D.lowerLimitRow s mass axis «old_impulse» m v ⌝ }
+// The sum of a lower limit's row, whose impulse turns B up about the axis.
+pub fn lower_limit_sum(s: SoftBias, mass: f32, axis: Vec3, old_impulse: f32, v: Velocities) -> f32
+    ensures { λ r. ⌜ r ≡ D.lowerLimitSum s mass axis «old_impulse» v ⌝ }
 {
     let cdot = dot(sub(v.w_b, v.w_a), axis);
-    let impulse = limit_impulse(s, mass, cdot, old_impulse);
-    let velocities = apply_axial(m, impulse - old_impulse, axis, v);
-    AxialRow {
-        impulse,
-        velocities,
-    }
+    limit_sum(s, mass, cdot, old_impulse)
 }
 
 // An upper limit or a cone: sign flipped on cdot and on the applied impulse.
@@ -79,6 +67,18 @@ pub fn upper_limit_row(
     let velocities = apply_axial_flipped(m, impulse - old_impulse, axis, v);
     AxialRow {
         impulse,
+        velocities,
+    }
+}
+
+// A pair of limit rows, of the lower limit's impulse and the upper limit's row, which comes second.
+pub fn limit_rows(lower_impulse: f32, upper: AxialRow) -> LimitRows
+    ensures { λ r. ⌜ r ≡ D.limitRows «lower_impulse» (upper .impulse) (upper .velocities) ⌝ }
+{
+    let velocities = upper.velocities;
+    LimitRows {
+        lower_impulse,
+        upper_impulse: upper.impulse,
         velocities,
     }
 }

@@ -108,12 +108,19 @@ pub fn soft_impulse(s: SoftBias, mass: f32, cdot: f32, old_impulse: f32) -> f32
     -s.mass_scale * mass * (cdot + s.bias) - s.impulse_scale * old_impulse
 }
 
+// The sum of a limit's impulse and what its row adds, before it is kept from falling below zero.
+pub fn limit_sum(s: SoftBias, mass: f32, cdot: f32, old_impulse: f32) -> f32
+    ensures { λ r. ⌜ r ≡ D.limitSum s mass cdot «old_impulse» ⌝ }
+{
+    let delta_impulse = soft_impulse(s, mass, cdot, old_impulse);
+    old_impulse + delta_impulse
+}
+
 // The impulse of a limit after its row: never below zero, and a NaN is dropped.
 pub fn limit_impulse(s: SoftBias, mass: f32, cdot: f32, old_impulse: f32) -> f32
     ensures { λ r. ⌜ r ≡ D.limitImpulse s mass cdot «old_impulse» ⌝ }
 {
-    let delta_impulse = soft_impulse(s, mass, cdot, old_impulse);
-    max_float(old_impulse + delta_impulse, 0.0)
+    max_float(limit_sum(s, mass, cdot, old_impulse), 0.0)
 }
 
 // The impulse of a soft row of three dimensions, where b is what the row's mass made of the error.

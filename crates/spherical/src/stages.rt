@@ -11,13 +11,15 @@ use constraint::angular::AxialRow;
 use constraint::angular::LimitRows;
 use constraint::angular::Row3;
 use constraint::angular::is_worked;
-use constraint::angular::lower_limit_row;
+use constraint::angular::limit_rows;
+use constraint::angular::lower_limit_sum;
 use constraint::angular::upper_limit_row;
 use constraint::rotation::RelativeRotation;
 use constraint::rotation::relative_rotation;
 use constraint::soft::limit_bias;
 use constraint::velocity::InvMasses;
 use constraint::velocity::Velocities;
+use constraint::velocity::apply_axial;
 use constraint::velocity::apply_warm;
 use constraint::velocity::inv_masses_of;
 use constraint::velocity::velocities_of;
@@ -122,16 +124,20 @@ fn solve_twist(
     let axis = joint.twist_jacobian;
     let angle = get_twist_angle(rel_q);
     let lower_bias = limit_bias(angle - joint.lower_twist_angle, softness, inv_h, use_bias);
-    let lower = lower_limit_row(lower_bias, mass, axis, joint.lower_twist_impulse, m, v);
-    let v = lower.velocities;
+    let old_impulse = joint.lower_twist_impulse;
+    let sum = lower_limit_sum(lower_bias, mass, axis, old_impulse, v);
+    // A limit that does not push is passed by a branch, which the processor foresees, so that what
+    // follows need not wait for the sum.
+    if sum > 0.0 {
+        let v = apply_axial(m, sum - old_impulse, axis, v);
+        let upper_bias = limit_bias(joint.upper_twist_angle - angle, softness, inv_h, use_bias);
+        let upper = upper_limit_row(upper_bias, mass, axis, joint.upper_twist_impulse, m, v);
+        return limit_rows(sum, upper);
+    }
+    let v = apply_axial(m, 0.0 - old_impulse, axis, v);
     let upper_bias = limit_bias(joint.upper_twist_angle - angle, softness, inv_h, use_bias);
     let upper = upper_limit_row(upper_bias, mass, axis, joint.upper_twist_impulse, m, v);
-    let velocities = upper.velocities;
-    LimitRows {
-        lower_impulse: lower.impulse,
-        upper_impulse: upper.impulse,
-        velocities,
-    }
+    limit_rows(0.0, upper)
 }
 
 fn solve_cone(

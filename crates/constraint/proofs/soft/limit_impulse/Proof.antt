@@ -4,4 +4,4 @@ use Rattle.constraint.proofs.soft.limit_impulse.Tie as tie
 
 pub limit-impulse-spec : {M : Type 1} → statement M
 unfolding limitImpulse
-limit-impulse-spec = tie.close (tie.spec (λ c κs. tt) (λ c κs. tt) (λ c. rw (← (c .before .soft-impulse .ensures), ← (c .max-float .ensures))))
+limit-impulse-spec = tie.close (tie.spec (λ c κs. tt) (λ c κs. tt) (λ c. rw (← (c .before .limit-sum .ensures), ← (c .max-float .ensures))))
