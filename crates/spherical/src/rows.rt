@@ -61,16 +61,23 @@ pub fn spring_row(
     angular_row(soft_bias3(softness, c), mass, old_impulse, m, v)
 }
 
-// The impulse, scaled where it is longer than max_impulse.
+// What scales an impulse of the length len to max_impulse where it is longer, and else to itself.
+fn limit_scale(len: f32, max_impulse: f32) -> f32
+    ensures { λ r. ⌜ r ≡ D.limitScale len «max_impulse» ⌝ }
+{
+    if len > max_impulse {
+        max_impulse / len
+    } else {
+        1.0
+    }
+}
+
+// The impulse, scaled where it is longer than max_impulse. The choice is of the scale, one number,
+// where the Rust's is of the vector: one times a number is that number.
 pub fn limit_length(impulse: Vec3, max_impulse: f32) -> Vec3
     ensures { λ r. ⌜ r ≡ D.limitLength impulse «max_impulse» ⌝ }
 {
-    let len = length(impulse);
-    if len > max_impulse {
-        mul_sv(max_impulse / len, impulse)
-    } else {
-        impulse
-    }
+    mul_sv(limit_scale(length(impulse), max_impulse), impulse)
 }
 
 // The motor drives the relative angular velocity to the motor's.
