@@ -1,2 +1,3 @@
 pub mod Spherical
+pub mod Steps
 pub mod Facts

@@ -7,7 +7,7 @@ use Rattle.math_functions.specs.declared.types.Vec3.{Vec3}
 use Rattle.math_functions.specs.declared.types.Quat.{Quat}
 use Rattle.math_functions.specs.declared.types.Transform.{Transform}
 use Rattle.math_functions.specs.declared.types.Matrix3.{Matrix3}
-use Rattle.math_functions.specs.Float.{_⊕_, _⊖_, _⊗_, _⊘_, gt, zero, one}
+use Rattle.math_functions.specs.Float.{_⊕_, _⊖_, _⊗_, _⊘_, gt, zero}
 use Rattle.math_functions.specs.Types.{vec3Zero, vec3AxisZ, mat3Zero}
 use Rattle.math_functions.specs.Vector.{add, sub, neg, length, normalize, mulAdd, mulSub, mulSv, cross}
 use Rattle.math_functions.specs.Quat.{rotateVector, invMulQuat, deltaQuatToRotation, getSwingAngle}
@@ -90,10 +90,6 @@ unfoldable pub limitLength : Vec3 → Float → Vec3
 limitLength impulse maxImpulse =
     let len = length impulse in
     cond (gt len maxImpulse) (mulSv (maxImpulse ⊘ len) impulse) impulse
-
--- by how much `limitLength` scales, where one times a number is that number
-unfoldable pub limitScale : Float → Float → Float
-limitScale len maxImpulse = cond (gt len maxImpulse) (maxImpulse ⊘ len) one
 
 -- Motor: its impulse is a vector, scaled to the length max_motor_torque × h where it is longer (revolute's is a number, clamped).
 unfoldable pub motorRow : Bool → Vec3 → Float → Float → Matrix3 → Vec3 → InvMasses → Velocities → Row3

@@ -2,6 +2,7 @@
 // velocities as they were.
 ghost use mathlib.Core.Path.{_≡_};
 ghost use Rattle.spherical.specs.Spherical as D;
+ghost use Rattle.spherical.specs.Steps as Steps;
 use constraint::angular::AxialRow;
 use constraint::angular::Row3;
 use constraint::angular::angular_row;
@@ -63,7 +64,7 @@ pub fn spring_row(
 
 // What scales an impulse of the length len to max_impulse where it is longer, and else to itself.
 fn limit_scale(len: f32, max_impulse: f32) -> f32
-    ensures { λ r. ⌜ r ≡ D.limitScale len «max_impulse» ⌝ }
+    ensures { λ r. ⌜ r ≡ Steps.limitScale len «max_impulse» ⌝ }
 {
     if len > max_impulse {
         max_impulse / len

@@ -6,7 +6,8 @@ use Rattle.math_functions.specs.declared.types.Vec3.{Vec3}
 use Rattle.math_functions.specs.Float.{_⊘_, gt, one}
 use Rattle.math_functions.specs.Types.{vec3}
 use Rattle.math_functions.specs.Vector.{length, mulSv}
-use Rattle.spherical.specs.Spherical.{limitLength, limitScale}
+use Rattle.spherical.specs.Spherical.{limitLength}
+use Rattle.spherical.specs.Steps.{limitScale}
 use Rattle.spherical.proofs.One.{one-times}
 use Rattle.spherical.proofs.rows.limit_length.Statement.{statement}
 use Rattle.spherical.proofs.rows.limit_length.Tie as tie

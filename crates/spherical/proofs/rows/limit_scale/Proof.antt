@@ -1,4 +1,4 @@
-use Rattle.spherical.specs.Spherical.{limitScale}
+use Rattle.spherical.specs.Steps.{limitScale}
 use Rattle.spherical.proofs.rows.limit_scale.Statement.{statement}
 use Rattle.spherical.proofs.rows.limit_scale.Tie as tie
 
