@@ -5,3 +5,6 @@ pub mod Locals
 pub mod Counts
 pub mod WarmStart
 pub mod Solve
+pub mod Repeated
+pub mod RepeatWarmStart
+pub mod RepeatSolve

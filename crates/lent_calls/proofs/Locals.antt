@@ -18,16 +18,19 @@ use Rattle.records.specs.declared.joint.JointSim.{JointSim}
 use Rattle.solver.specs.declared.StepContext.{StepContext}
 use Rattle.direct.specs.declared.Answer.{Answer}
 use Rattle.lent_calls.specs.declared.Left.{Left}
+use Rattle.lent_calls.specs.declared.Worked.{Worked}
 use Rattle.records.proofs.body.BodyState.Laws as Ts′
 use Rattle.records.proofs.joint.JointSim.Laws as Tj′
 use Rattle.solver.proofs.StepContext.Laws as Tx′
 use Rattle.direct.proofs.Answer.Laws as Tw′
 use Rattle.lent_calls.proofs.Left.Laws as Tl′
+use Rattle.lent_calls.proofs.Worked.Laws as Tk′
 use Rattle.direct.proofs.Rows.{R, J, X, Wn, val-j, vals-j, typed-j, val-x, vals-x, typed-x, val-w, vals-w, typed-w}
-use Rattle.lent_calls.proofs.Rows.{all, S, val-a, vals-a, typed-a, Lf, val-l, vals-l, typed-l}
+use Rattle.lent_calls.proofs.Rows.{all, S, val-a, vals-a, typed-a, Lf, val-l, vals-l, typed-l, Wk, val-k, vals-k, typed-k}
 
 pub record Locals : Type 0 where
   pub left : Ty
+  pub worked : Ty
   pub joint : Ty
   pub context : Ty
   pub state : Ty
@@ -46,6 +49,7 @@ refTo τ = tyRef erased mut τ
 abbrev pub locals : Locals
 locals = record {
   left = Tl′.mir;
+  worked = Tk′.mir;
   joint = Tj′.mir;
   context = Tx′.mir;
   state = Ts′.mir;
@@ -67,6 +71,7 @@ pub record Typing (t : Locals) : Type 0 where
   pub of-array : (ys : List BodyState) → Is S ys (vals-a ys) → Of (array t) (val-a ys)
   pub of-answer : (y : Answer) → Is Wn y (vals-w y) → Of (t .answer) (val-w y)
   pub of-left : (y : Left) → Is Lf y (vals-l y) → Of (t .left) (val-l y)
+  pub of-worked : (y : Worked) → Is Wk y (vals-k y) → Of (t .worked) (val-k y)
 
 pub typing : {M : Type 1} (𝓤 : URA M) (H : Heap 𝓤) (A : Atoms 𝓤) → Given 𝓤 H A → Typing locals
 typing 𝓤 H A W = record {
@@ -77,4 +82,5 @@ typing 𝓤 H A W = record {
   of-array = typed-a 𝓤 H A W;
   of-answer = typed-w 𝓤 H A W;
   of-left = typed-l 𝓤 H A W;
+  of-worked = typed-k 𝓤 H A W;
 }

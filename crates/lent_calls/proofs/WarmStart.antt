@@ -109,16 +109,16 @@ module _ {M : Type 1} (𝓤 : URA M) (H : Heap 𝓤) (A : Atoms 𝓤) (W : Given
 
   -- the call
   module _ (b b′ : ℕ) where
-    abbrev to-thin : (α β : ℕ) (γ γ′ : GName) → Thin k 𝓤 H A .Ghost
+    abbrev pub to-thin : (α β : ℕ) (γ γ′ : GName) → Thin k 𝓤 H A .Ghost
     to-thin α β γ γ′ = (((α ∷ [], (β ∷ [], tt)), (fullShare, (fullShare, tt)), tt, (record { ptr = (b, 0); name = γ; now = h }, (record { ptr = (b′, 0); name = γ′; now = take n ys }, tt)), (vptr b 0 ∷ [], (sliceVal (b′, 0) (min n all) ∷ [], tt))), tt)
 
-    goes : (α β : ℕ) (γ γ′ : GName) → ent 𝓤 (⋆ 𝓤 H A (Had 𝓤 J R Wn b b′ h (min n all) (take n ys) α β γ γ′)) (Thin k 𝓤 H A .pre (to-thin α β γ γ′))
+    pub goes : (α β : ℕ) (γ γ′ : GName) → ent 𝓤 (⋆ 𝓤 H A (Had 𝓤 J R Wn b b′ h (min n all) (take n ys) α β γ γ′)) (Thin k 𝓤 H A .pre (to-thin α β γ γ′))
     goes α β γ γ′ =
         qed W (Had 𝓤 J R Wn b b′ h (min n all) (take n ys) α β γ γ′) ∵ nothing ! $ move ! (2 ∷ 0 ∷ []) $ fjoin ! $ move ! (1 ∷ 0 ∷ []) $ fjoin ! $
         -- [what the two own; the tokens]
         nothing ! $ move ! (3 ∷ 0 ∷ []) $ join ! $ move ! (2 ∷ 0 ∷ []) $ join ! $ join ! $ frame ! $ done !
 
-    comes : (α β : ℕ) (γ γ′ : GName) (w : Val) → ent 𝓤 (Thin k 𝓤 H A .post (to-thin α β γ γ′) w) (mean 𝓤 H A (After 𝓤 J R Wn b b′ (out .answer) (out .joint) (out .states) α β γ γ′ w))
+    pub comes : (α β : ℕ) (γ γ′ : GName) (w : Val) → ent 𝓤 (Thin k 𝓤 H A .post (to-thin α β γ γ′) w) (mean 𝓤 H A (After 𝓤 J R Wn b b′ (out .answer) (out .joint) (out .states) α β γ γ′ w))
     comes α β γ γ′ w =
         leaves 𝓤 J R Wn b b′ H A W (out .answer) (out .joint) (out .states) α β γ γ′ w (JointSim × (List BodyState × Unit {0})) (λ z. z .0) (λ z. z .1 .0) (lasts thin.ended (to-thin α β γ γ′ .0 .0) (to-thin α β γ γ′ .0 .3)) (λ r z. Leaves out r (z .0) (z .1 .0))
         (λ z. qed W (‵ (lasts thin.ended (to-thin α β γ γ′ .0 .0) (to-thin α β γ γ′ .0 .3) z) ∷ []) ∵ fsplit ! $ move ! (1 ∷ []) $ fsplit ! $ fsplit ! $ keep ! (3 ∷ 0 ∷ []) $ done !) (λ r z e. e)

@@ -1,5 +1,5 @@
-// The direct calls on a joint and states that are handed over by value: they are lent to one call, and
-// handed back as it left them.
+// The direct calls on a joint and states that are handed over by value: they are lent to one call, or to
+// many, each on what the one before it left, and handed back as the last left them.
 ghost use mathlib.Core.Path.{_≡_};
 ghost use Prim.Native.Nat.{min};
 ghost use Rattle.direct.specs.Direct as D;
@@ -141,6 +141,134 @@ pub fn lend_solve_weld_joint(
     let answer = solve_weld_joint(&mut j, context, &mut s[..n], use_bias);
     Left {
         answer,
+        joint: j,
+        states: s,
+    }
+}
+
+// A joint and states, as calls left them.
+pub struct Worked {
+    pub joint: JointSim,
+    pub states: [BodyState; 3],
+}
+
+pub fn repeat_warm_start_revolute_joint(
+    joint: JointSim,
+    states: [BodyState; 3],
+    calls: u64,
+) -> Worked
+    ensures { λ r. ⌜ r ≡ L.repeated (D.warmStart D.revolute) joint states calls ⌝ }
+{
+    let mut j = joint;
+    let mut s = states;
+    let mut i = 0u64;
+    while i < calls {
+        warm_start_revolute_joint(&mut j, &mut s);
+        i += 1;
+    }
+    Worked {
+        joint: j,
+        states: s,
+    }
+}
+
+pub fn repeat_warm_start_spherical_joint(
+    joint: JointSim,
+    states: [BodyState; 3],
+    calls: u64,
+) -> Worked
+    ensures { λ r. ⌜ r ≡ L.repeated (D.warmStart D.spherical) joint states calls ⌝ }
+{
+    let mut j = joint;
+    let mut s = states;
+    let mut i = 0u64;
+    while i < calls {
+        warm_start_spherical_joint(&mut j, &mut s);
+        i += 1;
+    }
+    Worked {
+        joint: j,
+        states: s,
+    }
+}
+
+pub fn repeat_warm_start_weld_joint(joint: JointSim, states: [BodyState; 3], calls: u64) -> Worked
+    ensures { λ r. ⌜ r ≡ L.repeated (D.warmStart D.weld) joint states calls ⌝ }
+{
+    let mut j = joint;
+    let mut s = states;
+    let mut i = 0u64;
+    while i < calls {
+        warm_start_weld_joint(&mut j, &mut s);
+        i += 1;
+    }
+    Worked {
+        joint: j,
+        states: s,
+    }
+}
+
+pub fn repeat_solve_revolute_joint(
+    joint: JointSim,
+    context: StepContext,
+    states: [BodyState; 3],
+    use_bias: bool,
+    calls: u64,
+) -> Worked
+    ensures { λ r. ⌜ r ≡ L.repeated (D.solve D.revolute context «use_bias») joint states calls ⌝ }
+{
+    let mut j = joint;
+    let mut s = states;
+    let mut i = 0u64;
+    while i < calls {
+        solve_revolute_joint(&mut j, context, &mut s, use_bias);
+        i += 1;
+    }
+    Worked {
+        joint: j,
+        states: s,
+    }
+}
+
+pub fn repeat_solve_spherical_joint(
+    joint: JointSim,
+    context: StepContext,
+    states: [BodyState; 3],
+    use_bias: bool,
+    calls: u64,
+) -> Worked
+    ensures { λ r. ⌜ r ≡ L.repeated (D.solve D.spherical context «use_bias») joint states calls ⌝ }
+{
+    let mut j = joint;
+    let mut s = states;
+    let mut i = 0u64;
+    while i < calls {
+        solve_spherical_joint(&mut j, context, &mut s, use_bias);
+        i += 1;
+    }
+    Worked {
+        joint: j,
+        states: s,
+    }
+}
+
+pub fn repeat_solve_weld_joint(
+    joint: JointSim,
+    context: StepContext,
+    states: [BodyState; 3],
+    use_bias: bool,
+    calls: u64,
+) -> Worked
+    ensures { λ r. ⌜ r ≡ L.repeated (D.solve D.weld context «use_bias») joint states calls ⌝ }
+{
+    let mut j = joint;
+    let mut s = states;
+    let mut i = 0u64;
+    while i < calls {
+        solve_weld_joint(&mut j, context, &mut s, use_bias);
+        i += 1;
+    }
+    Worked {
         joint: j,
         states: s,
     }
