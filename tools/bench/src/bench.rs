@@ -1,7 +1,8 @@
 //! The rows of the bench, worked by the published Rust: `bench ROW REPEATS` prints a checksum, and
 //! with fewer arguments each row is worked once. Numbers and checksums are those of the programs
-//! crates/bench and crates/bench_stages.
+//! crates/bench, crates/bench_stages and crates/bench_direct.
 
+mod bench_direct;
 mod bench_stages;
 mod bench_sum;
 mod bench_wall;
@@ -12,6 +13,7 @@ mod words;
 
 include!("published.rs");
 
+use bench_direct::run_direct;
 use bench_stages::run_stages;
 use bench_sum::{add_float, sum_wall};
 use bench_wall::Wall;
@@ -24,10 +26,11 @@ use math_functions::atan2;
 use solver::StepContext;
 
 /// A row for each kind of joints and each kind of list, then the two leaves, then one for each kind and
-/// each of its stages.
+/// each of its stages, then one for each kind and each of its direct calls.
 const LISTS: usize = 16;
 const STAGES: usize = LISTS + 2;
-const ROWS: usize = STAGES + 12;
+const DIRECT: usize = STAGES + 12;
+const ROWS: usize = DIRECT + 9;
 
 /// How many calls a repeat makes.
 const CALLS: usize = 4096;
@@ -88,7 +91,8 @@ fn work(row: usize, repeats: usize) -> u32 {
         row if row < LISTS => run_lists(row / 4, row % 4, repeats),
         LISTS => roots(CALLS * repeats),
         row if row < STAGES => arctangents(CALLS * repeats),
-        _ => run_stages(row - STAGES, CALLS * repeats),
+        row if row < DIRECT => run_stages(row - STAGES, CALLS * repeats),
+        _ => run_direct(row - DIRECT, CALLS * repeats),
     }
 }
 

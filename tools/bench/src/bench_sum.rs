@@ -1,6 +1,7 @@
 //! The checksums of what the rows leave. Every NaN counts as one.
 
 use crate::bench_wall::Wall;
+use crate::body::BodyState;
 use crate::joint::{JointSim, JointUnion, RevoluteJoint, SphericalJoint, WeldJoint};
 use crate::math_functions::{Matrix3, Transform, Vec3};
 use crate::solver::Softness;
@@ -47,15 +48,15 @@ fn add_impulses(sum: u32, joint: &JointSim) -> u32 {
     }
 }
 
-/// What a stage can change: the impulses of the joints and the velocities of the bodies.
+/// What a stage can change: the impulses of a joint and the velocities of a body.
+pub fn add_gate(sum: u32, joint: &JointSim, state: &BodyState) -> u32 {
+    let sum = add_vec3(add_impulses(sum, joint), state.linear_velocity);
+    add_vec3(sum, state.angular_velocity)
+}
+
 pub fn sum_wall(wall: &Wall) -> u32 {
-    wall.joints
-        .iter()
-        .zip(&wall.states)
-        .fold(0, |sum, (joint, state)| {
-            let sum = add_vec3(add_impulses(sum, joint), state.linear_velocity);
-            add_vec3(sum, state.angular_velocity)
-        })
+    let gates = wall.joints.iter().zip(&wall.states);
+    gates.fold(0, |sum, (joint, state)| add_gate(sum, joint, state))
 }
 
 fn add_matrix(sum: u32, m: Matrix3) -> u32 {
