@@ -2,7 +2,6 @@
 // calls left of it.
 use bench_wall::sum::add_gate;
 use bench_wall::wall::wall;
-use lent_calls::Worked;
 use records::body::BodyState;
 use records::joint::JointSim;
 use solver::StepContext;
@@ -31,9 +30,7 @@ pub fn wall_gate(kind: u8) -> Gate {
 }
 
 // The joint with each of its two bodies.
-pub fn checksum(left: Worked) -> u32 {
-    let joint = left.joint;
-    let states = left.states;
+pub fn checksum(joint: JointSim, states: [BodyState; 3]) -> u32 {
     let a = states[0];
     let b = states[1];
     add_gate(add_gate(0, joint, a), joint, b)

@@ -1,12 +1,15 @@
-// The direct calls, a kind and a stage to a row: `bench_direct ROW REPEATS` prints the row's checksum.
-// With fewer arguments each row is worked once, and its number and checksum are printed.
+// The direct calls, a kind and a stage to a row: `bench_direct ROW REPEATS` prints the row's checksum; 0
+// repeats are one call. With fewer arguments each row is worked once, and its number and checksum are
+// printed.
 mod gate;
+mod once;
 mod rows;
 
 ghost use Prim.Native.Nat.{_<_};
 use bench_wall::arguments::argument;
 use bench_wall::rows::write_checksum;
 use bench_wall::rows::write_row;
+use once::one_call;
 
 // The rows of the bench before these are those of the programs bench and bench_stages.
 const FIRST: u8 = 30;
@@ -17,6 +20,9 @@ const END: u8 = 39;
 fn work(row: u8, repeats: u64) -> u32
     requires { ⌜ repeats < 1000000000 ⌝ }
 {
+    if repeats == 0 {
+        return one_call(row);
+    }
     let calls = 4096 * repeats;
     match row {
         30 => rows::warm_start_revolute(calls),
