@@ -19,7 +19,6 @@ use borrow.Author.Tests.{eq-eqb, ne-eqb, eqb-true, eqb-false, lt-ltb, ltb-true, 
 use Rattle.records.proofs.joint.JointSim as JointField
 use Rattle.records.proofs.body.BodyState as BodyField
 use Rattle.math_functions.specs.declared.types.Vec3.{Vec3}
-use Rattle.solver.specs.declared.StepContext.{StepContext}
 use Rattle.records.specs.declared.body.BodyState.{BodyState}
 use Rattle.records.specs.declared.joint.JointUnion.{JointUnion}
 use Rattle.records.specs.declared.joint.JointUnion.the-variants.{Revolute, Spherical, Weld, Other}
@@ -132,8 +131,8 @@ abbrev pub remade : Scene → List BodyState → List JointSim → Scene
 remade s bodies joints = record { joints = joints; bodies = bodies; «joint_count» = s .«joint_count»; «body_count» = s .«body_count»; context = s .context }
 
 -- what the loop's match leaves: the joint of the slot as the stage r left it, and the velocities
-pub record Worked (t : Scene) (at : ℕ) (d : JointSim) (r : Staged) (next : Scene) (v : Velocities) : Type 0 where
-  pub stored : next ≡ remade t (t .bodies) (set (t .joints) at (jointSim (getD (t .joints) at d .base) (r .«union_»)))
+pub record Worked (js : List JointSim) (at : ℕ) (d : JointSim) (r : Staged) (next : List JointSim) (v : Velocities) : Type 0 where
+  pub stored : next ≡ set js at (jointSim (getD js at d .base) (r .«union_»))
   pub moved : v ≡ r .velocities
 
 -- what a stage's number tells: the case, and whether it is a warm start
@@ -163,27 +162,23 @@ solve-code u stage k e h = by u (eqb stage 0) refl e
     by (Weld j) false f e = let g : 5 ≡ k + 3 = rw f at e in (omega (arith, g), eqb-false stage 0 f)
     by Other b f e = let g : 6 ≡ k + 3 = e in absurd (omega (arith, g))
 
-module _ (t : Scene) (at : ℕ) (d : JointSim) (h i : Float) (a b : BodyState) (stage c : ℕ) (next : Scene) (v : Velocities) (coded : c ≡ stageCode (getD (t .joints) at d .«union_») stage) where
+module _ (js : List JointSim) (at : ℕ) (d : JointSim) (h i : Float) (a b : BodyState) (stage c : ℕ) (next : List JointSim) (v : Velocities) (coded : c ≡ stageCode (getD js at d .«union_») stage) where
   abbrev j : JointSim
-  j = getD (t .joints) at d
+  j = getD js at d
 
   -- the stage of the joint, whichever kind it is
   abbrev pub its-stage : Staged
   its-stage = stageJoint (j .«union_») (j .base) h i a b stage
 
-  abbrev put : JointUnion → Scene
-  put u = remade t (t .bodies) (set (t .joints) at (jointSim (j .base) u))
+  abbrev put : JointUnion → List JointSim
+  put u = set js at (jointSim (j .base) u)
 
   -- where the stage leaves the joint as it was
-  unmoved : (w : Velocities) → staged (j .«union_») w ≡ its-stage → next ≡ t → v ≡ w → Worked t at d its-stage next v
-  unmoved w same n m =
-      record {
-        stored = n ∙ ap (remade t (t .bodies)) (sym (set-getD (t .joints) at d)) ∙ ap (λ x. put (x .«union_»)) same;
-        moved = m ∙ ap (λ x. x .velocities) same;
-      }
+  unmoved : (w : Velocities) → staged (j .«union_») w ≡ its-stage → next ≡ js → v ≡ w → Worked js at d its-stage next v
+  unmoved w same n m = record { stored = n ∙ sym (set-getD js at d) ∙ ap (λ x. put (x .«union_»)) same; moved = m ∙ ap (λ x. x .velocities) same }
 
   -- in the arm of a kind's warm start
-  pub worked-warm : (k : ℕ) → c ≡ k → k < 3 → v ≡ warmStartAs k (j .«union_») (j .base) a b → next ≡ t → Worked t at d its-stage next v
+  pub worked-warm : (k : ℕ) → c ≡ k → k < 3 → v ≡ warmStartAs k (j .«union_») (j .base) a b → next ≡ js → Worked js at d its-stage next v
   unfolding stageJoint warmStartAs
   worked-warm k f low g n =
       let of = warm-code (j .«union_») stage k (sym coded ∙ f) low in
@@ -191,14 +186,14 @@ module _ (t : Scene) (at : ℕ) (d : JointSim) (h i : Float) (a b : BodyState) (
 
   -- in the arm of a kind's solve
   pub worked-solve : (k : ℕ) (r : Staged) (left : JointSim) → c ≡ k + 3 → k < 3 → r ≡ solveAs k (j .«union_») (j .base) h i a b (eqb stage 1) → left ≡ jointSim (j .base) (r .«union_»)
-      → next ≡ remade t (t .bodies) (set (t .joints) at left)
+      → next ≡ set js at left
       → v ≡ r .velocities
-      → Worked t at d its-stage next v
+      → Worked js at d its-stage next v
   unfolding stageJoint solveAs
   worked-solve k r left f low g keeps n m =
       let of = solve-code (j .«union_») stage k (sym coded ∙ f) low in
       let same : r ≡ its-stage = g ∙ rw (eq-eqb (caseOf (j .«union_»)) k (of .0), ne-eqb stage 0 (of .1)) in
-      record { stored = n ∙ ap (λ x. remade t (t .bodies) (set (t .joints) at x)) keeps ∙ ap (λ x. put (x .«union_»)) same; moved = m ∙ ap (λ x. x .velocities) same }
+      record { stored = n ∙ ap (set js at) keeps ∙ ap (λ x. put (x .«union_»)) same; moved = m ∙ ap (λ x. x .velocities) same }
 
   other : (u : JointUnion) → c ≡ stageCode u stage → c ≢ 0 → c ≢ 1 → c ≢ 2 → c ≢ 3 → c ≢ 4 → c ≢ 5 → staged u (velocitiesOf a b) ≡ stageJoint u (j .base) h i a b stage
   unfolding stageJoint stageCode warmStartJoint solveJoint
@@ -215,28 +210,27 @@ module _ (t : Scene) (at : ℕ) (d : JointSim) (h i : Float) (a b : BodyState) (
       by Other false f e = rw f
 
   -- in the arm of no kind nothing is worked
-  pub worked-none : c ≢ 0 → c ≢ 1 → c ≢ 2 → c ≢ 3 → c ≢ 4 → c ≢ 5 → next ≡ t → v ≡ velocitiesOf a b → Worked t at d its-stage next v
+  pub worked-none : c ≢ 0 → c ≢ 1 → c ≢ 2 → c ≢ 3 → c ≢ 4 → c ≢ 5 → next ≡ js → v ≡ velocitiesOf a b → Worked js at d its-stage next v
   worked-none n0 n1 n2 n3 n4 n5 n m = unmoved _ (other (j .«union_») coded n0 n1 n2 n3 n4 n5) n m
 
 -- from what the code's calls gave, a turn is one call of the plain run
-pub turn-is : (t : Scene) (us ws : List BodyState) (slot stage at pa pb : ℕ) (d : JointSim) (e : BodyState) (na nb : BodyState) (r : Staged) (x : StepContext) (v : Velocities)
+pub turn-is : (s : Scene) (js : List JointSim) (us ws : List BodyState) (slot stage at pa pb : ℕ) (d : JointSim) (e : BodyState) (na nb : BodyState) (r : Staged) (v : Velocities)
     → length us ≡ 32
-    → length (t .joints) ≡ 32
+    → length js ≡ 32
     → ws ≡ withIdentity us
     → slot < 32
-    → t .context ≡ x
     → at ≡ jointPlace slot
-    → pa ≡ bodyPlace (indexA (getD (t .joints) at d .«union_»))
-    → pb ≡ bodyPlace (indexB (getD (t .joints) at d .«union_»))
-    → r ≡ stageJoint (getD (t .joints) at d .«union_») (getD (t .joints) at d .base) (x .h) (x .«inv_h») (getD ws pa e) (getD ws pb e) stage
+    → pa ≡ bodyPlace (indexA (getD js at d .«union_»))
+    → pb ≡ bodyPlace (indexB (getD js at d .«union_»))
+    → r ≡ stageJoint (getD js at d .«union_») (getD js at d .base) (s .context .h) (s .context .«inv_h») (getD ws pa e) (getD ws pb e) stage
     → v ≡ r .velocities
     → na ≡ storeVelocities (getD ws pa e) (v .«v_a») (v .«w_a»)
     → nb ≡ storeVelocities (getD (set ws pa na) pb e) (v .«v_b») (v .«w_b»)
     → (us' : List BodyState) × (set (set ws pa na) pb nb ≡ withIdentity us') × (length us' ≡ 32)
-    × (remade t us' (set (t .joints) at (jointSim (getD (t .joints) at d .base) (r .«union_»))) ≡ step (call slot stage) (remade t us (t .joints)))
+    × (remade s us' (set js at (jointSim (getD js at d .base) (r .«union_»))) ≡ step (call slot stage) (remade s us js))
 unfolding step
-turn-is t us ws slot stage at pa pb d e na nb r x v₀ lb lj ew h ex ha hpa hpb er ev ka₀ kb₀ =
-    let j = getD (t .joints) at d in
+turn-is s js us ws slot stage at pa pb d e na nb r v₀ lb lj ew h ha hpa hpb er ev ka₀ kb₀ =
+    let j = getD js at d in
     let z = indexA (j .«union_») in
     let y = indexB (j .«union_») in
     let v = r .velocities in
@@ -250,15 +244,15 @@ turn-is t us ws slot stage at pa pb d e na nb r x v₀ lb lj ew h ex ha hpa hpb 
     let g : set (set ws pa na) pb nb ≡ withIdentity two = rw (f, hpb) (kept-is one lb' y nb e (v .«v_b») (v .«w_b») (rw (f, hpb) at kb)) in
     let sa : getD ws pa e ≡ stateAt us z = rw (ew, hpa) (seen-is us lb z e) in
     let sb : getD ws pb e ≡ stateAt us y = rw (ew, hpb) (seen-is us lb y e) in
-    let same : j ≡ getD (t .joints) slot unusedJoint = rw q (getD-any (t .joints) slot d unusedJoint (rw lj h)) in
-    (two, g, store-long one y (v .«v_b») (v .«w_b») lb', finish j (getD (t .joints) slot unusedJoint) same (getD ws pa e) (getD ws pb e) sa sb (rw ex er) q)
+    let same : j ≡ getD js slot unusedJoint = rw q (getD-any js slot d unusedJoint (rw lj h)) in
+    (two, g, store-long one y (v .«v_b») (v .«w_b») lb', finish j (getD js slot unusedJoint) same (getD ws pa e) (getD ws pb e) sa sb er q)
   where
     finish : (j k : JointSim) → j ≡ k → (a b : BodyState) → a ≡ stateAt us (indexA (j .«union_»)) → b ≡ stateAt us (indexB (j .«union_»))
-        → r ≡ stageJoint (j .«union_») (j .base) (t .context .h) (t .context .«inv_h») a b stage
+        → r ≡ stageJoint (j .«union_») (j .base) (s .context .h) (s .context .«inv_h») a b stage
         → at ≡ slot
-        → remade t (storeBoth us (j .«union_») (r .velocities)) (set (t .joints) at (jointSim (j .base) (r .«union_»)))
-        ≡ (let m = stageJoint (k .«union_») (k .base) (t .context .h) (t .context .«inv_h») (stateAt us (indexA (k .«union_»))) (stateAt us (indexB (k .«union_»))) stage in
-        remade t (storeBoth us (k .«union_») (m .velocities)) (set (t .joints) slot (jointSim (k .base) (m .«union_»))))
+        → remade s (storeBoth us (j .«union_») (r .velocities)) (set js at (jointSim (j .base) (r .«union_»)))
+        ≡ (let m = stageJoint (k .«union_») (k .base) (s .context .h) (s .context .«inv_h») (stateAt us (indexA (k .«union_»))) (stateAt us (indexB (k .«union_»))) stage in
+        remade s (storeBoth us (k .«union_») (m .velocities)) (set js slot (jointSim (k .base) (m .«union_»))))
     finish j k e a b ea eb er q = rw (er, ea, eb, q, e)
 
 -- ---- filling an array from another

@@ -1,5 +1,5 @@
 -- Laws on a list of calls, as the loops go through its bytes. Assumes nothing.
-use mathlib.Core.Path.{_≡_, refl, sym, ap, subst, _∙_}
+use mathlib.Core.Path.{_≡_, refl, sym, ap, _∙_}
 use mathlib.Core.Logic.{_≢_}
 use mathlib.Core.Bool.{Bool, true, false, cond, _||_, _&&_}
 use mathlib.Core.List.{List, [], _∷_, _++_, map, append-nil}
@@ -134,47 +134,44 @@ causes-all s w k long e q =
 
 -- ---- the run's loop
 
--- the loop's state: `us` and the joints of `t` after the calls before the byte `i`
-pub record Midst (s : Scene) (l : List ℕ) (t : Scene) (bs : List BodyState) (i : ℕ) : Type 0 where
+-- the loop's state: `us` and `js` after the calls before the byte `i`
+pub record Midst (s : Scene) (l : List ℕ) (js : List JointSim) (bs : List BodyState) (i : ℕ) : Type 0 where
   pub us : List BodyState
   pub holds : bs ≡ withIdentity us
   pub long-bodies : length us ≡ 32
-  pub long-joints : length (t .joints) ≡ 32
-  pub context : t .context ≡ s .context
+  pub long-joints : length js ≡ 32
   pub slots : Every (λ c. c .slot < s .«joint_count») (calls (drop i l))
-  pub made : runCalls (calls (drop i l)) (remade t us (t .joints)) ≡ runCalls (calls l) s
+  pub made : runCalls (calls (drop i l)) (remade s us js) ≡ runCalls (calls l) s
 
-pub midst-start : (s : Scene) (l : List ℕ) (bs : List BodyState) → Accepted s l → length (s .bodies) ≡ 32 → length (s .joints) ≡ 32 → bs ≡ withIdentity (s .bodies) → Midst s l s bs 0
-midst-start s l bs a b j e = record { us = s .bodies; holds = e; long-bodies = b; long-joints = j; context = refl; slots = accepted-slots s l a; made = refl }
+pub midst-start : (s : Scene) (l : List ℕ) (bs : List BodyState) → Accepted s l → length (s .bodies) ≡ 32 → length (s .joints) ≡ 32 → bs ≡ withIdentity (s .bodies) → Midst s l (s .joints) bs 0
+midst-start s l bs a b j e = record { us = s .bodies; holds = e; long-bodies = b; long-joints = j; slots = accepted-slots s l a; made = refl }
 
-module _ (s : Scene) (l : List ℕ) (t : Scene) (bs : List BodyState) (i : ℕ) (w : Midst s l t bs i) where
+module _ (s : Scene) (l : List ℕ) (js : List JointSim) (bs : List BodyState) (i : ℕ) (w : Midst s l js bs i) where
   slots-here : i + 1 < length l → (getD l i 0 < s .«joint_count») × Every (λ c. c .slot < s .«joint_count») (calls (drop (i + 2) l))
   slots-here h = rw (calls-here l i h) at (w .slots)
 
   pub slot-low : i + 1 < length l → s .«joint_count» ≤ 32 → getD l i 0 < 32
   slot-low h few = omega (arith, slots-here h .0)
 
-  pub midst-more : (us : List BodyState) (ws : List BodyState) (at : ℕ) (n : JointSim) (next : Scene) → i + 1 < length l → ws ≡ withIdentity us → length us ≡ 32
-      → remade t us (set (t .joints) at n) ≡ step (call (getD l i 0) (getD l (i + 1) 0)) (remade t (w .us) (t .joints))
-      → next ≡ remade t (t .bodies) (set (t .joints) at n)
+  pub midst-more : (us : List BodyState) (ws : List BodyState) (at : ℕ) (n : JointSim) (next : List JointSim) → i + 1 < length l → ws ≡ withIdentity us → length us ≡ 32
+      → remade s us (set js at n) ≡ step (call (getD l i 0) (getD l (i + 1) 0)) (remade s (w .us) js)
+      → next ≡ set js at n
       → Midst s l next ws (i + 2)
   midst-more us ws at n next h holds long g e =
-      subst (λ x. Midst s l x ws (i + 2)) (sym e)
-      (record {
+      record {
         us = us;
         holds = holds;
         long-bodies = long;
-        long-joints = length-set (t .joints) at n ∙ w .long-joints;
-        context = w .context;
+        long-joints = ap length e ∙ length-set js at n ∙ w .long-joints;
         slots = slots-here h .1;
-        made = ap (runCalls (calls (drop (i + 2) l))) g ∙ (rw (calls-here l i h) at (w .made));
-      })
+        made = ap (runCalls (calls (drop (i + 2) l))) (ap (remade s us) e ∙ g) ∙ (rw (calls-here l i h) at (w .made));
+      }
 
-  pub midst-done : (are : List BodyState) → length l ≤ i → are ≡ take 32 bs → remade t are (t .joints) ≡ runCalls (calls l) s
+  pub midst-done : (are : List BodyState) → length l ≤ i → are ≡ take 32 bs → remade s are js ≡ runCalls (calls l) s
   unfolding withIdentity
   midst-done are h e =
       let same : are ≡ w .us = e ∙ rw (w .holds) (take-at (w .us) (identityBodyState ∷ []) 32 (w .long-bodies)) in
-      ap (λ x. remade t x (t .joints)) same ∙ (rw (calls-end l i h) at (w .made))
+      ap (λ x. remade s x js) same ∙ (rw (calls-end l i h) at (w .made))
 
 -- ---- the run
 

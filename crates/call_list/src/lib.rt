@@ -34,7 +34,7 @@ fn run_calls(scene: Scene, list: &[u8]) -> Scene
     requires { ⌜ Accepted scene (now list) ⌝ }
     ensures { λ r. ⌜ r ≡ runCalls (calls (now (list .entry))) scene ⌝ }
 {
-    let mut next = scene;
+    let mut joints = scene.joints;
     let start = scene.bodies;
     let mut bodies = with_identity(start);
     let h = scene.context.h;
@@ -44,7 +44,7 @@ fn run_calls(scene: Scene, list: &[u8]) -> Scene
         let slot = joint_place(list[i]);
         let stage = list[i + 1];
         let use_bias = stage == 1;
-        let named = next.joints[slot];
+        let named = joints[slot];
         let places = places_of(named);
         let place_a = places.a;
         let place_b = places.b;
@@ -55,36 +55,36 @@ fn run_calls(scene: Scene, list: &[u8]) -> Scene
         // there by a solve, so that only what the solve changes is written
         match stage_code(named, stage) {
             0 => {
-                let joint = next.joints[slot];
+                let joint = joints[slot];
                 v = warm_start_as_revolute(joint, a, b);
             }
             1 => {
-                let joint = next.joints[slot];
+                let joint = joints[slot];
                 v = warm_start_as_spherical(joint, a, b);
             }
             2 => {
-                let joint = next.joints[slot];
+                let joint = joints[slot];
                 v = warm_start_as_weld(joint, a, b);
             }
             3 => {
-                let joint = next.joints[slot];
+                let joint = joints[slot];
                 let s = solve_as_revolute(joint, h, inv_h, a, b, use_bias);
                 let left = staged_joint(joint, s);
-                next.joints[slot] = left;
+                joints[slot] = left;
                 v = s.velocities;
             }
             4 => {
-                let joint = next.joints[slot];
+                let joint = joints[slot];
                 let s = solve_as_spherical(joint, h, inv_h, a, b, use_bias);
                 let left = staged_joint(joint, s);
-                next.joints[slot] = left;
+                joints[slot] = left;
                 v = s.velocities;
             }
             5 => {
-                let joint = next.joints[slot];
+                let joint = joints[slot];
                 let s = solve_as_weld(joint, h, inv_h, a, b, use_bias);
                 let left = staged_joint(joint, s);
-                next.joints[slot] = left;
+                joints[slot] = left;
                 v = s.velocities;
             }
             _ => {}
@@ -100,6 +100,8 @@ fn run_calls(scene: Scene, list: &[u8]) -> Scene
         i += 2;
     }
     let end = without_identity(bodies);
+    let mut next = scene;
+    next.joints = joints;
     next.bodies = end;
     next
 }

@@ -1,4 +1,4 @@
--- `run_calls` equals its definition: `bodies` and the joints of `next` are those after the calls before the byte `i`. Assumes nothing.
+-- `run_calls` equals its definition: `bodies` and `joints` are those after the calls before the byte `i`. Assumes nothing.
 use mathlib.Core.Path.{_≡_, refl, ap, _∙_}
 use mathlib.Core.Logic.{⊎-elim}
 use Prim.Native.Nat.{ℕ, _+_, _-_, _%_, _≤_, _<_}
@@ -11,17 +11,17 @@ use Rattle.call_list.proofs.run_calls.Statement.{statement}
 use Rattle.call_list.proofs.run_calls.Tie as tie
 
 abbrev Inv-loop : tie.InvT-loop
-Inv-loop list next₀ bodies₀ h inv-h i₀ next bodies i = (i ≤ length list) × (i % 2 ≡ 0) × Midst next₀ list next bodies i
+Inv-loop scene list joints₀ bodies₀ h inv-h i₀ joints bodies i = (i ≤ length list) × (i % 2 ≡ 0) × Midst scene list joints bodies i
 
 abbrev μ-loop : tie.MeasureT-loop
-μ-loop list next₀ bodies₀ h inv-h i₀ next bodies i = length list - i
+μ-loop scene list joints₀ bodies₀ h inv-h i₀ joints bodies i = length list - i
 
 with-identity-requires : tie.Need-with-identity-requires Inv-loop μ-loop
 with-identity-requires c κs = search needs
 
 loop-holds : tie.Need-loop-holds Inv-loop μ-loop
 loop-holds c =
-    let e = c .before .before .before in
+    let e = c .before .before .before .before in
     let r = e .args in
     let start = midst-start (r .scene) (r .list .now) (c .with-identity .result) (e .pre) (bodies-long (r .scene) (e .good .0 .1 .1 .1 .0 .1 .0 .1)) (joints-long (r .scene) (e .good .0 .1 .1 .0 .1 .0 .1)) (c .with-identity .ensures) in
     (search needs, search needs, start)
@@ -38,7 +38,7 @@ add-stage c = search needs
 shared-slice-read-stage : tie.Need-shared-slice-read-stage Inv-loop μ-loop
 shared-slice-read-stage c =
     let l = c .before .before .before .before in
-    let e = l .before .before .before .before in
+    let e = l .before .before .before .before .before in
     let r = e .args in
     let none = accepted-early (r .scene) (r .list .now) (e .pre) in
     omega (arith, none .even, l .loop .inv .1, c .before .before .before .loop-test .taken)
@@ -46,8 +46,8 @@ shared-slice-read-stage c =
 mul-named : tie.Need-mul-named Inv-loop μ-loop
 mul-named c = search needs
 
-element-copy-out-named : tie.Need-element-copy-out-named Inv-loop μ-loop
-element-copy-out-named c = search needs
+array-copy-out-named : tie.Need-array-copy-out-named Inv-loop μ-loop
+array-copy-out-named c = search needs
 
 places-of-requires : tie.Need-places-of-requires Inv-loop μ-loop
 places-of-requires c κs = search needs
@@ -73,8 +73,8 @@ stage-code-requires c κs = search needs
 mul-joint : tie.Need-mul-joint Inv-loop μ-loop
 mul-joint c = omega (arith, c .before .before .before .before .before .before .before .before .joint-place .ensures .0)
 
-element-copy-out-joint : tie.Need-element-copy-out-joint Inv-loop μ-loop
-element-copy-out-joint c = omega (arith, c .before .before .before .before .before .before .before .before .joint-place .ensures .0)
+array-copy-out-joint : tie.Need-array-copy-out-joint Inv-loop μ-loop
+array-copy-out-joint c = omega (arith, c .before .before .before .before .before .before .before .before .joint-place .ensures .0)
 
 warm-start-as-revolute-requires : tie.Need-warm-start-as-revolute-requires Inv-loop μ-loop
 warm-start-as-revolute-requires c κs = search needs
@@ -82,8 +82,8 @@ warm-start-as-revolute-requires c κs = search needs
 mul-joint-2 : tie.Need-mul-joint-2 Inv-loop μ-loop
 mul-joint-2 c = omega (arith, c .before .before .before .before .before .before .before .before .joint-place .ensures .0)
 
-element-copy-out-joint-2 : tie.Need-element-copy-out-joint-2 Inv-loop μ-loop
-element-copy-out-joint-2 c = omega (arith, c .before .before .before .before .before .before .before .before .joint-place .ensures .0)
+array-copy-out-joint-2 : tie.Need-array-copy-out-joint-2 Inv-loop μ-loop
+array-copy-out-joint-2 c = omega (arith, c .before .before .before .before .before .before .before .before .joint-place .ensures .0)
 
 warm-start-as-spherical-requires : tie.Need-warm-start-as-spherical-requires Inv-loop μ-loop
 warm-start-as-spherical-requires c κs = search needs
@@ -91,8 +91,8 @@ warm-start-as-spherical-requires c κs = search needs
 mul-joint-3 : tie.Need-mul-joint-3 Inv-loop μ-loop
 mul-joint-3 c = omega (arith, c .before .before .before .before .before .before .before .before .joint-place .ensures .0)
 
-element-copy-out-joint-3 : tie.Need-element-copy-out-joint-3 Inv-loop μ-loop
-element-copy-out-joint-3 c = omega (arith, c .before .before .before .before .before .before .before .before .joint-place .ensures .0)
+array-copy-out-joint-3 : tie.Need-array-copy-out-joint-3 Inv-loop μ-loop
+array-copy-out-joint-3 c = omega (arith, c .before .before .before .before .before .before .before .before .joint-place .ensures .0)
 
 warm-start-as-weld-requires : tie.Need-warm-start-as-weld-requires Inv-loop μ-loop
 warm-start-as-weld-requires c κs = search needs
@@ -100,8 +100,8 @@ warm-start-as-weld-requires c κs = search needs
 mul-joint-4 : tie.Need-mul-joint-4 Inv-loop μ-loop
 mul-joint-4 c = omega (arith, c .before .before .before .before .before .before .before .before .joint-place .ensures .0)
 
-element-copy-out-joint-4 : tie.Need-element-copy-out-joint-4 Inv-loop μ-loop
-element-copy-out-joint-4 c = omega (arith, c .before .before .before .before .before .before .before .before .joint-place .ensures .0)
+array-copy-out-joint-4 : tie.Need-array-copy-out-joint-4 Inv-loop μ-loop
+array-copy-out-joint-4 c = omega (arith, c .before .before .before .before .before .before .before .before .joint-place .ensures .0)
 
 solve-as-revolute-requires : tie.Need-solve-as-revolute-requires Inv-loop μ-loop
 solve-as-revolute-requires c κs = search needs
@@ -109,17 +109,17 @@ solve-as-revolute-requires c κs = search needs
 staged-joint-requires : tie.Need-staged-joint-requires Inv-loop μ-loop
 staged-joint-requires c κs = search needs
 
-mul-left : tie.Need-mul-left Inv-loop μ-loop
-mul-left c = omega (arith, c .before .before .before .before .before .before .before .before .before .before .before .joint-place .ensures .0)
+mul-joints : tie.Need-mul-joints Inv-loop μ-loop
+mul-joints c = omega (arith, c .before .before .before .before .before .before .before .before .before .before .before .joint-place .ensures .0)
 
-element-set-from-left : tie.Need-element-set-from-left Inv-loop μ-loop
-element-set-from-left c = omega (arith, c .before .before .before .before .before .before .before .before .before .before .before .joint-place .ensures .0)
+array-set-from-joints : tie.Need-array-set-from-joints Inv-loop μ-loop
+array-set-from-joints c = omega (arith, c .before .before .before .before .before .before .before .before .before .before .before .joint-place .ensures .0)
 
 mul-joint-5 : tie.Need-mul-joint-5 Inv-loop μ-loop
 mul-joint-5 c = omega (arith, c .before .before .before .before .before .before .before .before .joint-place .ensures .0)
 
-element-copy-out-joint-5 : tie.Need-element-copy-out-joint-5 Inv-loop μ-loop
-element-copy-out-joint-5 c = omega (arith, c .before .before .before .before .before .before .before .before .joint-place .ensures .0)
+array-copy-out-joint-5 : tie.Need-array-copy-out-joint-5 Inv-loop μ-loop
+array-copy-out-joint-5 c = omega (arith, c .before .before .before .before .before .before .before .before .joint-place .ensures .0)
 
 solve-as-spherical-requires : tie.Need-solve-as-spherical-requires Inv-loop μ-loop
 solve-as-spherical-requires c κs = search needs
@@ -127,17 +127,17 @@ solve-as-spherical-requires c κs = search needs
 staged-joint-requires-2 : tie.Need-staged-joint-requires-2 Inv-loop μ-loop
 staged-joint-requires-2 c κs = search needs
 
-mul-left-2 : tie.Need-mul-left-2 Inv-loop μ-loop
-mul-left-2 c = omega (arith, c .before .before .before .before .before .before .before .before .before .before .before .joint-place .ensures .0)
+mul-joints-2 : tie.Need-mul-joints-2 Inv-loop μ-loop
+mul-joints-2 c = omega (arith, c .before .before .before .before .before .before .before .before .before .before .before .joint-place .ensures .0)
 
-element-set-from-left-2 : tie.Need-element-set-from-left-2 Inv-loop μ-loop
-element-set-from-left-2 c = omega (arith, c .before .before .before .before .before .before .before .before .before .before .before .joint-place .ensures .0)
+array-set-from-joints-2 : tie.Need-array-set-from-joints-2 Inv-loop μ-loop
+array-set-from-joints-2 c = omega (arith, c .before .before .before .before .before .before .before .before .before .before .before .joint-place .ensures .0)
 
 mul-joint-6 : tie.Need-mul-joint-6 Inv-loop μ-loop
 mul-joint-6 c = omega (arith, c .before .before .before .before .before .before .before .before .joint-place .ensures .0)
 
-element-copy-out-joint-6 : tie.Need-element-copy-out-joint-6 Inv-loop μ-loop
-element-copy-out-joint-6 c = omega (arith, c .before .before .before .before .before .before .before .before .joint-place .ensures .0)
+array-copy-out-joint-6 : tie.Need-array-copy-out-joint-6 Inv-loop μ-loop
+array-copy-out-joint-6 c = omega (arith, c .before .before .before .before .before .before .before .before .joint-place .ensures .0)
 
 solve-as-weld-requires : tie.Need-solve-as-weld-requires Inv-loop μ-loop
 solve-as-weld-requires c κs = search needs
@@ -145,11 +145,11 @@ solve-as-weld-requires c κs = search needs
 staged-joint-requires-3 : tie.Need-staged-joint-requires-3 Inv-loop μ-loop
 staged-joint-requires-3 c κs = search needs
 
-mul-left-3 : tie.Need-mul-left-3 Inv-loop μ-loop
-mul-left-3 c = omega (arith, c .before .before .before .before .before .before .before .before .before .before .before .joint-place .ensures .0)
+mul-joints-3 : tie.Need-mul-joints-3 Inv-loop μ-loop
+mul-joints-3 c = omega (arith, c .before .before .before .before .before .before .before .before .before .before .before .joint-place .ensures .0)
 
-element-set-from-left-3 : tie.Need-element-set-from-left-3 Inv-loop μ-loop
-element-set-from-left-3 c = omega (arith, c .before .before .before .before .before .before .before .before .before .before .before .joint-place .ensures .0)
+array-set-from-joints-3 : tie.Need-array-set-from-joints-3 Inv-loop μ-loop
+array-set-from-joints-3 c = omega (arith, c .before .before .before .before .before .before .before .before .before .before .before .joint-place .ensures .0)
 
 mul-again-a : tie.Need-mul-again-a Inv-loop μ-loop
 mul-again-a c = omega (arith, c .before .before .before .before .before .places-of .ensures .0, c .before .before .before .before .before .places-of .ensures .1)
@@ -184,7 +184,7 @@ array-set-from-bodies-2 c = omega (arith, c .before .before .before .before .bef
 add-i : tie.Need-add-i Inv-loop μ-loop
 add-i c =
     let l = c .before .before .before .before .before .before .before .before .before .before .before .before .before .before .before in
-    let e = l .before .before .before .before in
+    let e = l .before .before .before .before .before in
     let r = e .args in
     let none = accepted-early (r .scene) (r .list .now) (e .pre) in
     omega (arith, none .short, l .loop .inv .0)
@@ -197,11 +197,11 @@ loop-less c =
 loop-again : tie.Need-loop-again Inv-loop μ-loop
 loop-again c =
     let l = c .before .before .before .before .before .before .before .before .before .before .before .before .before .before .before in
-    let e = l .before .before .before .before in
+    let e = l .before .before .before .before .before in
     let r = e .args in
     let none = accepted-early (r .scene) (r .list .now) (e .pre) in
     let w = l .loop .inv .2 in
-    let t = l .loop .next in
+    let js = l .loop .joints in
     let at = c .before .before .before .before .before .before .before .before .before .before .before .before .joint-place in
     let places = c .before .before .before .before .before .before .before .before .before .places-of in
     let seen = c .before .before .before .before .before .before .velocities-of in
@@ -211,29 +211,28 @@ loop-again c =
     let b = c .store-velocities2 in
     let left =
     ⊎-elim
-    (λ z. worked-warm t (at .result) _ _ _ _ _ _ (code .result) (m .next) (m .v) (code .ensures) 0 (z .0 .keys1) (omega arith) (z .4 ∙ z .2 .ensures) (z .3))
+    (λ z. worked-warm js (at .result) _ _ _ _ _ _ (code .result) (m .joints) (m .v) (code .ensures) 0 (z .0 .keys1) (omega arith) (z .4 ∙ z .2 .ensures) (z .3))
     (⊎-elim
-    (λ z. worked-warm t (at .result) _ _ _ _ _ _ (code .result) (m .next) (m .v) (code .ensures) 1 (z .0 .keys2) (omega arith) (z .4 ∙ z .2 .ensures) (z .3))
+    (λ z. worked-warm js (at .result) _ _ _ _ _ _ (code .result) (m .joints) (m .v) (code .ensures) 1 (z .0 .keys2) (omega arith) (z .4 ∙ z .2 .ensures) (z .3))
     (⊎-elim
-    (λ z. worked-warm t (at .result) _ _ _ _ _ _ (code .result) (m .next) (m .v) (code .ensures) 2 (z .0 .keys3) (omega arith) (z .4 ∙ z .2 .ensures) (z .3))
+    (λ z. worked-warm js (at .result) _ _ _ _ _ _ (code .result) (m .joints) (m .v) (code .ensures) 2 (z .0 .keys3) (omega arith) (z .4 ∙ z .2 .ensures) (z .3))
     (⊎-elim
-    (λ z. worked-solve t (at .result) _ _ _ _ _ _ (code .result) (m .next) (m .v) (code .ensures) 0 (z .2 .result) (z .3 .result) (z .0 .keys4) (omega arith) (z .2 .ensures) (z .3 .ensures) (z .5) (z .6))
+    (λ z. worked-solve js (at .result) _ _ _ _ _ _ (code .result) (m .joints) (m .v) (code .ensures) 0 (z .2 .result) (z .3 .result) (z .0 .keys4) (omega arith) (z .2 .ensures) (z .3 .ensures) (z .5) (z .6))
     (⊎-elim
-    (λ z. worked-solve t (at .result) _ _ _ _ _ _ (code .result) (m .next) (m .v) (code .ensures) 1 (z .2 .result) (z .3 .result) (z .0 .keys5) (omega arith) (z .2 .ensures) (z .3 .ensures) (z .5) (z .6))
+    (λ z. worked-solve js (at .result) _ _ _ _ _ _ (code .result) (m .joints) (m .v) (code .ensures) 1 (z .2 .result) (z .3 .result) (z .0 .keys5) (omega arith) (z .2 .ensures) (z .3 .ensures) (z .5) (z .6))
     (⊎-elim
-    (λ z. worked-solve t (at .result) _ _ _ _ _ _ (code .result) (m .next) (m .v) (code .ensures) 2 (z .2 .result) (z .3 .result) (z .0 .keys6) (omega arith) (z .2 .ensures) (z .3 .ensures) (z .5) (z .6))
-    (λ z. worked-none t (at .result) _ _ _ _ _ _ (code .result) (m .next) (m .v) (code .ensures) (z .0 .rest .0 .0 .0 .0 .0 .1) (z .0 .rest .0 .0 .0 .0 .1) (z .0 .rest .0 .0 .0 .1) (z .0 .rest .0 .0 .1) (z .0 .rest .0 .1) (z .0 .rest .1) (z .1) (z .2 ∙ seen .ensures)))))))
+    (λ z. worked-solve js (at .result) _ _ _ _ _ _ (code .result) (m .joints) (m .v) (code .ensures) 2 (z .2 .result) (z .3 .result) (z .0 .keys6) (omega arith) (z .2 .ensures) (z .3 .ensures) (z .5) (z .6))
+    (λ z. worked-none js (at .result) _ _ _ _ _ _ (code .result) (m .joints) (m .v) (code .ensures) (z .0 .rest .0 .0 .0 .0 .0 .1) (z .0 .rest .0 .0 .0 .0 .1) (z .0 .rest .0 .0 .0 .1) (z .0 .rest .0 .0 .1) (z .0 .rest .0 .1) (z .0 .rest .1) (z .1) (z .2 ∙ seen .ensures)))))))
     (m .came)
     in
     let room : l .loop .i + 1 < length (r .list .now) = omega (arith, none .even, l .loop .inv .1, c .before .before .before .before .before .before .before .before .before .before .before .before .before .before .loop-test .taken) in
-    let low = slot-low (r .scene) (r .list .now) t (l .loop .bodies) (l .loop .i) w room (none .few-joints) in
+    let low = slot-low (r .scene) (r .list .now) js (l .loop .bodies) (l .loop .i) w room (none .few-joints) in
     let turn =
-    turn-is t (w .us) (l .loop .bodies) _ _ (at .result) (places .result .a) (places .result .b) _ _ (a .result) (b .result) _ _ (m .v)
+    turn-is (r .scene) js (w .us) (l .loop .bodies) _ _ (at .result) (places .result .a) (places .result .b) _ _ (a .result) (b .result) _ (m .v)
     (w .long-bodies)
     (w .long-joints)
     (w .holds)
     low
-    (w .context)
     (at .ensures .1)
     (ap (λ x. x .a) (places .ensures .2))
     (ap (λ x. x .b) (places .ensures .2))
@@ -242,7 +241,7 @@ loop-again c =
     (a .ensures)
     (b .ensures)
     in
-    let more = midst-more (r .scene) (r .list .now) t (l .loop .bodies) (l .loop .i) w (turn .0) _ (at .result) _ (m .next) room (turn .1) (turn .2) (turn .3) (left .stored) in
+    let more = midst-more (r .scene) (r .list .now) js (l .loop .bodies) (l .loop .i) w (turn .0) _ (at .result) _ (m .joints) room (turn .1) (turn .2) (turn .3) (left .stored) in
     (omega (arith, room), omega (arith, l .loop .inv .1), more)
 
 without-identity-requires : tie.Need-without-identity-requires Inv-loop μ-loop
@@ -251,18 +250,18 @@ without-identity-requires c κs = search needs
 returns : tie.Need-returns Inv-loop μ-loop
 returns c =
     let l = c .before .before in
-    let r = l .before .before .before .before .args in
-    midst-done (r .scene) (r .list .now) (l .loop .next) (l .loop .bodies) (l .loop .i) (l .loop .inv .2) (c .without-identity .result) (omega (arith, c .before .loop-test .left)) (c .without-identity .ensures)
+    let r = l .before .before .before .before .before .args in
+    midst-done (r .scene) (r .list .now) (l .loop .joints) (l .loop .bodies) (l .loop .i) (l .loop .inv .2) (c .without-identity .result) (omega (arith, c .before .loop-test .left)) (c .without-identity .ensures)
 
 pub run-calls-spec : {M : Type 1} → statement M
 run-calls-spec =
     tie.close
     (tie.spec
     Inv-loop μ-loop with-identity-requires loop-holds shared-slice-read-joint-place joint-place-requires add-stage shared-slice-read-stage mul-named
-    element-copy-out-named places-of-requires mul-a array-copy-out-a mul-b array-copy-out-b velocities-of-requires stage-code-requires mul-joint
-    element-copy-out-joint warm-start-as-revolute-requires mul-joint-2 element-copy-out-joint-2 warm-start-as-spherical-requires mul-joint-3
-    element-copy-out-joint-3 warm-start-as-weld-requires mul-joint-4 element-copy-out-joint-4 solve-as-revolute-requires staged-joint-requires
-    mul-left element-set-from-left mul-joint-5 element-copy-out-joint-5 solve-as-spherical-requires staged-joint-requires-2 mul-left-2
-    element-set-from-left-2 mul-joint-6 element-copy-out-joint-6 solve-as-weld-requires staged-joint-requires-3 mul-left-3 element-set-from-left-3
+    array-copy-out-named places-of-requires mul-a array-copy-out-a mul-b array-copy-out-b velocities-of-requires stage-code-requires mul-joint
+    array-copy-out-joint warm-start-as-revolute-requires mul-joint-2 array-copy-out-joint-2 warm-start-as-spherical-requires mul-joint-3
+    array-copy-out-joint-3 warm-start-as-weld-requires mul-joint-4 array-copy-out-joint-4 solve-as-revolute-requires staged-joint-requires
+    mul-joints array-set-from-joints mul-joint-5 array-copy-out-joint-5 solve-as-spherical-requires staged-joint-requires-2 mul-joints-2
+    array-set-from-joints-2 mul-joint-6 array-copy-out-joint-6 solve-as-weld-requires staged-joint-requires-3 mul-joints-3 array-set-from-joints-3
     mul-again-a array-copy-out-again-a store-velocities-requires mul-bodies array-set-from-bodies mul-again-b array-copy-out-again-b
     store-velocities-requires-2 mul-bodies-2 array-set-from-bodies-2 add-i loop-less loop-again without-identity-requires returns)
