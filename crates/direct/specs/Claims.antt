@@ -20,7 +20,7 @@ use Rattle.joint.specs.Index.{indexA, indexB, caseOf}
 use Rattle.joint.specs.Store.{statePair, storePair}
 use Rattle.scene.specs.Scene.{jointAt, stateAt, NamesBody}
 use Rattle.scene.specs.Plain.{storeBoth, plainRun}
-use Rattle.scene.specs.Claims.{OutOf, Test, test, NoCause, FirstCause, OnlyVelocities, OnlyImpulses, LimitsPush}
+use Rattle.scene.specs.Claims.{OutOf, Test, test, NoCause, FirstCause, OnlyVelocities, OnlyImpulses, LimitsNonNegative}
 use Rattle.direct.specs.declared.call.Call.{Call}
 use Rattle.direct.specs.Direct.{warmStart, solve, Outcome, directCall}
 
@@ -135,4 +135,4 @@ abbrev pub Limits : Type 0
 Limits = (kind : ℕ) (context : StepContext) (useBias : Bool) (joint : JointSim) (states : List BodyState)
     → directCall (solve kind context useBias) joint states .answer .number ≡ 0
     → joint .base .«fixed_rotation» ≡ false
-    → LimitsPush (joint .«union_») (directCall (solve kind context useBias) joint states .joint .«union_»)
+    → LimitsNonNegative (joint .«union_») (directCall (solve kind context useBias) joint states .joint .«union_»)

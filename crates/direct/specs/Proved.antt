@@ -16,7 +16,7 @@ use Rattle.constraint.specs.Answer.{jointSim}
 use Rattle.joint.specs.Index.{caseOf, indexA, indexB, badIndex}
 use Rattle.scene.specs.Scene.{stateAt, store}
 use Rattle.scene.specs.Plain.{verdictOf, storeBoth}
-use Rattle.scene.specs.Claims.{LimitsPush}
+use Rattle.scene.specs.Claims.{LimitsNonNegative}
 use Rattle.scene.specs.Stages.{stage-keeps, warm-keeps, solve-limits}
 use Rattle.scene.specs.Stores.{both-rest}
 use Rattle.scene.specs.Framed.{only-impulses}
@@ -153,7 +153,7 @@ a-solve false e = omega arith
 
 pub limits : Limits
 limits kind context useBias joint states e free =
-    by-outcome (solve kind context useBias) joint states (λ o. o .answer .number ≡ 0 → LimitsPush (joint .«union_») (o .joint .«union_»))
+    by-outcome (solve kind context useBias) joint states (λ o. o .answer .number ≡ 0 → LimitsNonNegative (joint .«union_») (o .joint .«union_»))
     (λ e. let u = joint .«union_» in
     solve-limits (joint .base) (context .h) (context .«inv_h») (stateAt states (indexA u)) (stateAt states (indexB u)) (cond useBias 1 2) u (a-solve useBias) free)
     (λ ne e. absurd (ne e)) e

@@ -38,8 +38,8 @@ Cause7 l = (length l % 2 ≡ 1) ⊎ (8192 < length l)
 abbrev pub Cause4 : Scene → Call → Type 0
 Cause4 s c = s .«joint_count» ≤ c .slot
 
-abbrev pub Cause5 : Scene → Call → Type 0
-Cause5 s c = 2 < c .stage
+abbrev pub Cause5 : Call → Type 0
+Cause5 c = 2 < c .stage
 
 abbrev pub Cause1 : Scene → Call → Type 0
 Cause1 s c = jointAt s (c .slot) .«union_» ≡ Other
@@ -68,7 +68,7 @@ test number place cause = record { number = number; place = place; cause = cause
 abbrev pub callTests : Scene → ℕ → List Call → List Test
 callTests s place [] = []
 callTests s place (c ∷ l) =
-    test 4 place (Cause4 s c) ∷ test 5 place (Cause5 s c) ∷ test 1 place (Cause1 s c) ∷ test 2 place (Cause2 s c) ∷ test 3 place (Cause3 s c) ∷ callTests s (place + 1) l
+    test 4 place (Cause4 s c) ∷ test 5 place (Cause5 c) ∷ test 1 place (Cause1 s c) ∷ test 2 place (Cause2 s c) ∷ test 3 place (Cause3 s c) ∷ callTests s (place + 1) l
 
 -- the tests of a run, in their order: 6, 7, then the calls from the first on
 abbrev pub tests : Scene → List ℕ → List Test
@@ -228,7 +228,7 @@ limitsOf (Weld r) = noLimits
 limitsOf Other = noLimits
 
 -- of each limit that was enabled at the start, the impulses at the end are zero or positive, and no NaN
-pub record LimitsPush (start end : JointUnion) : Type 0 where
+pub record LimitsNonNegative (start end : JointUnion) : Type 0 where
   pub lower : limitsOf start .limit-on ≡ true → NonNegative (limitsOf end .lower)
   pub upper : limitsOf start .limit-on ≡ true → NonNegative (limitsOf end .upper)
   pub swing : limitsOf start .cone-on ≡ true → NonNegative (limitsOf end .swing)
@@ -237,7 +237,7 @@ pub record LimitsPush (start end : JointUnion) : Type 0 where
 -- positive, never a NaN. (The switches themselves stay, by Changes.)
 abbrev pub Limits : Type 0
 Limits = (s : Scene) (l : List ℕ) → Accepted s l → (j : ℕ) → Solved j (calls l) → jointAt s j .base .«fixed_rotation» ≡ false
-    → LimitsPush (jointAt s j .«union_») (jointAt (plainRun s l .scene) j .«union_»)
+    → LimitsNonNegative (jointAt s j .«union_») (jointAt (plainRun s l .scene) j .«union_»)
 
 -- ==== Two examples
 

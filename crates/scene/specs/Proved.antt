@@ -20,7 +20,7 @@ use Rattle.scene.specs.declared.Scene.{Scene}
 use Rattle.scene.specs.Scene.{jointAt, bodyAt}
 use Rattle.scene.specs.Calls.{calls}
 use Rattle.scene.specs.Plain.{verdict, Accepted, runCalls, isStill, plainRun}
-use Rattle.scene.specs.Claims.{Numbers, Acceptance, Refusal, Midway, Stillness, SameVelocities, NoNaN, EmptyList, Order, OrderCounted, Changes, ChangesMidway, OnlyChanges, Cause6, Cause7, tests, settingsOf, limitsOf, LimitsPush, Limits, Differ, Agree}
+use Rattle.scene.specs.Claims.{Numbers, Acceptance, Refusal, Midway, Stillness, SameVelocities, NoNaN, EmptyList, Order, OrderCounted, Changes, ChangesMidway, OnlyChanges, Cause6, Cause7, tests, settingsOf, limitsOf, LimitsNonNegative, Limits, Differ, Agree}
 use Rattle.scene.specs.Accepted.{verdict-answers, answers-numbers, answers-none, run-accepted, run-refused, run-verdict, accepted-calls, no-cause-kept, no-cause-at}
 use Rattle.scene.specs.Stages.{no-limits, stage-keeps, warm-keeps, solve-limits}
 use Rattle.scene.specs.Settled.{settled}
@@ -126,20 +126,20 @@ cone-stays (Weld r) = refl
 cone-stays Other = refl
 
 -- the switches are settings
-push-from : (u v w : JointUnion) → settingsOf u ≡ settingsOf w → LimitsPush u v → LimitsPush w v
-push-from u v w e p =
+limits-from : (u v w : JointUnion) → settingsOf u ≡ settingsOf w → LimitsNonNegative u v → LimitsNonNegative w v
+limits-from u v w e p =
     let limit : limitsOf u .limit-on ≡ limitsOf w .limit-on = sym (limit-stays u) ∙ ap (λ x. limitsOf x .limit-on) e ∙ limit-stays w in
     let cone : limitsOf u .cone-on ≡ limitsOf w .cone-on = sym (cone-stays u) ∙ ap (λ x. limitsOf x .cone-on) e ∙ cone-stays w in
     record { lower = λ on. p .lower (limit ∙ on); upper = λ on. p .upper (limit ∙ on); swing = λ on. p .swing (cone ∙ on) }
 
 -- what each solve of a joint brings about
 abbrev Settled : JointSim → Type 0
-Settled j = j .base .«fixed_rotation» ≡ false → LimitsPush (j .«union_») (j .«union_»)
+Settled j = j .base .«fixed_rotation» ≡ false → LimitsNonNegative (j .«union_») (j .«union_»)
 
 settles : (u : JointUnion) (base : JointBase) (h invH : Float) (a b : BodyState) (stage : ℕ) → stage ≢ 0 → Settled (jointSim base (stageJoint u base h invH a b stage .«union_»))
 settles u base h invH a b stage ne free =
     let next = stageJoint u base h invH a b stage .«union_» in
-    push-from u next next (sym (stage-keeps base h invH a b stage u)) (solve-limits base h invH a b stage u ne free)
+    limits-from u next next (sym (stage-keeps base h invH a b stage u)) (solve-limits base h invH a b stage u ne free)
 
 settled-stays : (u : JointUnion) (base : JointBase) (h invH : Float) (a b : BodyState) (stage : ℕ) → Settled (jointSim base u) → Settled (jointSim base (stageJoint u base h invH a b stage .«union_»))
 settled-stays u base h invH a b stage p = by (eqb stage 0) refl
@@ -153,7 +153,7 @@ limits s l accepted j solved free =
     let t = runCalls (calls l) s in
     let same = fixed-at s t (framed s (calls l)) j in
     rw (run-accepted s l accepted)
-    (push-from (jointAt t j .«union_») (jointAt t j .«union_») (jointAt s j .«union_») (same .settings)
+    (limits-from (jointAt t j .«union_») (jointAt t j .«union_») (jointAt s j .«union_») (same .settings)
     (settled Settled (λ f. no-limits Other Other refl refl) settles settled-stays (calls l) s j solved (ap (λ x. x .«fixed_rotation») (same .base) ∙ free)))
 
 -- ---- the examples

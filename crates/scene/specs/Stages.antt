@@ -16,7 +16,7 @@ use Rattle.spherical.specs.Facts as Spherical-facts
 use Rattle.weld.specs.Facts as Weld-facts
 use Rattle.joint.specs.declared.stage.Staged.{Staged}
 use Rattle.joint.specs.Stage.{staged, solveJoint, stageJoint}
-use Rattle.scene.specs.Claims.{settingsOf, limitsOf, LimitsPush}
+use Rattle.scene.specs.Claims.{settingsOf, limitsOf, LimitsNonNegative}
 
 -- by whether the stage is a warm start, which leaves `u`, or a solve, which leaves `s`
 keeps-by : (b : Bool) (u : JointUnion) (p : Velocities) (s : Staged) → settingsOf (s .«union_») ≡ settingsOf u → settingsOf (cond b (staged u p) s .«union_») ≡ settingsOf u
@@ -24,7 +24,7 @@ keeps-by true u p s k = refl
 keeps-by false u p s k = k
 
 -- a joint with no limits has none that pulls
-pub no-limits : (u v : JointUnion) → limitsOf u .limit-on ≡ false → limitsOf u .cone-on ≡ false → LimitsPush u v
+pub no-limits : (u v : JointUnion) → limitsOf u .limit-on ≡ false → limitsOf u .cone-on ≡ false → LimitsNonNegative u v
 no-limits u v l c =
     record {
       lower = λ on. absurd (false≢true (sym l ∙ on));
@@ -40,7 +40,7 @@ module _ (base : JointBase) (h invH : Float) (a b : BodyState) where
   solve-keeps (Weld j) useBias = ap (λ x. settingsOf (Weld x)) (Weld-facts.solve-keeps base j a b useBias)
   solve-keeps Other useBias = refl
 
-  solve-limits-of : (u : JointUnion) (useBias : Bool) → base .«fixed_rotation» ≡ false → LimitsPush u (solveJoint u base h invH a b useBias .«union_»)
+  solve-limits-of : (u : JointUnion) (useBias : Bool) → base .«fixed_rotation» ≡ false → LimitsNonNegative u (solveJoint u base h invH a b useBias .«union_»)
   unfolding solveJoint
   solve-limits-of (Revolute j) useBias free =
       let limits = Revolute-facts.solve-limits base j h invH a b useBias free in
@@ -63,6 +63,6 @@ module _ (base : JointBase) (h invH : Float) (a b : BodyState) (stage : ℕ) (u 
   warm-keeps e = rw (eq-eqb stage 0 e)
 
   -- after a solve with rotation not fixed the enabled limits' impulses are zero or positive
-  pub solve-limits : stage ≢ 0 → base .«fixed_rotation» ≡ false → LimitsPush u (stageJoint u base h invH a b stage .«union_»)
+  pub solve-limits : stage ≢ 0 → base .«fixed_rotation» ≡ false → LimitsNonNegative u (stageJoint u base h invH a b stage .«union_»)
   unfolding stageJoint
   solve-limits ne free = rw (ne-eqb stage 0 ne) (solve-limits-of base h invH a b u (eqb stage 1) free)
