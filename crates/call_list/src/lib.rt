@@ -20,6 +20,7 @@ use joint::stage::warm_start_as_spherical;
 use joint::stage::warm_start_as_weld;
 use records::body::BodyState;
 use records::body::store_velocities;
+use records::joint::JointSim;
 use scene::Run;
 use scene::Scene;
 
@@ -53,38 +54,39 @@ fn run_calls(scene: Scene, list: &[u8]) -> Scene
         let mut v = velocities_of(a, b);
         // the joint is read again in each arm, so that only what its stage needs is loaded, and stored
         // there by a solve, so that only what the solve changes is written
+        let warm: JointSim;
         match stage_code(named, stage) {
             0 => {
-                let joint = joints[slot];
-                v = warm_start_as_revolute(joint, a, b);
+                warm = joints[slot];
+                v = warm_start_as_revolute(warm, a, b);
             }
             1 => {
-                let joint = joints[slot];
-                v = warm_start_as_spherical(joint, a, b);
+                warm = joints[slot];
+                v = warm_start_as_spherical(warm, a, b);
             }
             2 => {
-                let joint = joints[slot];
-                v = warm_start_as_weld(joint, a, b);
+                warm = joints[slot];
+                v = warm_start_as_weld(warm, a, b);
             }
             3 => {
-                let joint = joints[slot];
+                let mut joint = joints[slot];
                 let s = solve_as_revolute(joint, h, inv_h, a, b, use_bias);
-                let left = staged_joint(joint, s);
-                joints[slot] = left;
+                joint = staged_joint(joint, s);
+                joints[slot] = joint;
                 v = s.velocities;
             }
             4 => {
-                let joint = joints[slot];
+                let mut joint = joints[slot];
                 let s = solve_as_spherical(joint, h, inv_h, a, b, use_bias);
-                let left = staged_joint(joint, s);
-                joints[slot] = left;
+                joint = staged_joint(joint, s);
+                joints[slot] = joint;
                 v = s.velocities;
             }
             5 => {
-                let joint = joints[slot];
+                let mut joint = joints[slot];
                 let s = solve_as_weld(joint, h, inv_h, a, b, use_bias);
-                let left = staged_joint(joint, s);
-                joints[slot] = left;
+                joint = staged_joint(joint, s);
+                joints[slot] = joint;
                 v = s.velocities;
             }
             _ => {}
@@ -100,10 +102,14 @@ fn run_calls(scene: Scene, list: &[u8]) -> Scene
         i += 2;
     }
     let end = without_identity(bodies);
-    let mut next = scene;
-    next.joints = joints;
-    next.bodies = end;
-    next
+    let context = scene.context;
+    Scene {
+        joints,
+        bodies: end,
+        joint_count: scene.joint_count,
+        body_count: scene.body_count,
+        context,
+    }
 }
 
 // Whether the first `count` bodies kept their velocities.

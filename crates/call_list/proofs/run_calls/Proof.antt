@@ -17,7 +17,7 @@ abbrev μ-loop : tie.MeasureT-loop
 μ-loop scene list joints₀ bodies₀ h inv-h i₀ joints bodies i = length list - i
 
 with-identity-requires : tie.Need-with-identity-requires Inv-loop μ-loop
-with-identity-requires c κs = search needs
+with-identity-requires c κs = tt
 
 loop-holds : tie.Need-loop-holds Inv-loop μ-loop
 loop-holds c =
@@ -30,7 +30,7 @@ shared-slice-read-joint-place : tie.Need-shared-slice-read-joint-place Inv-loop 
 shared-slice-read-joint-place c = search needs
 
 joint-place-requires : tie.Need-joint-place-requires Inv-loop μ-loop
-joint-place-requires c κs = search needs
+joint-place-requires c κs = tt
 
 add-stage : tie.Need-add-stage Inv-loop μ-loop
 add-stage c = search needs
@@ -44,31 +44,58 @@ shared-slice-read-stage c =
     omega (arith, none .even, l .loop .inv .1, c .before .before .before .loop-test .taken)
 
 mul-named : tie.Need-mul-named Inv-loop μ-loop
-mul-named c = search needs
+mul-named c = omega (arith, c .before .joint-place .ensures .0)
 
 array-copy-out-named : tie.Need-array-copy-out-named Inv-loop μ-loop
-array-copy-out-named c = search needs
+array-copy-out-named c = omega (arith, c .before .joint-place .ensures .0)
 
 places-of-requires : tie.Need-places-of-requires Inv-loop μ-loop
-places-of-requires c κs = search needs
+places-of-requires c κs = tt
 
 mul-a : tie.Need-mul-a Inv-loop μ-loop
-mul-a c = search needs
+mul-a c = omega (arith, c .places-of .ensures .0)
 
 array-copy-out-a : tie.Need-array-copy-out-a Inv-loop μ-loop
-array-copy-out-a c = search needs
+array-copy-out-a c = omega (arith, c .places-of .ensures .0)
 
 mul-b : tie.Need-mul-b Inv-loop μ-loop
-mul-b c = search needs
+mul-b c = omega (arith, c .before .places-of .ensures .1)
 
 array-copy-out-b : tie.Need-array-copy-out-b Inv-loop μ-loop
-array-copy-out-b c = search needs
+array-copy-out-b c = omega (arith, c .before .places-of .ensures .1)
 
 velocities-of-requires : tie.Need-velocities-of-requires Inv-loop μ-loop
-velocities-of-requires c κs = search needs
+velocities-of-requires c κs = tt
 
 stage-code-requires : tie.Need-stage-code-requires Inv-loop μ-loop
-stage-code-requires c κs = search needs
+stage-code-requires c κs = tt
+
+mul-warm : tie.Need-mul-warm Inv-loop μ-loop
+mul-warm c = omega (arith, c .before .before .before .before .before .before .before .before .joint-place .ensures .0)
+
+array-copy-out-warm : tie.Need-array-copy-out-warm Inv-loop μ-loop
+array-copy-out-warm c = omega (arith, c .before .before .before .before .before .before .before .before .joint-place .ensures .0)
+
+warm-start-as-revolute-requires : tie.Need-warm-start-as-revolute-requires Inv-loop μ-loop
+warm-start-as-revolute-requires c κs = tt
+
+mul-warm-2 : tie.Need-mul-warm-2 Inv-loop μ-loop
+mul-warm-2 c = omega (arith, c .before .before .before .before .before .before .before .before .joint-place .ensures .0)
+
+array-copy-out-warm-2 : tie.Need-array-copy-out-warm-2 Inv-loop μ-loop
+array-copy-out-warm-2 c = omega (arith, c .before .before .before .before .before .before .before .before .joint-place .ensures .0)
+
+warm-start-as-spherical-requires : tie.Need-warm-start-as-spherical-requires Inv-loop μ-loop
+warm-start-as-spherical-requires c κs = tt
+
+mul-warm-3 : tie.Need-mul-warm-3 Inv-loop μ-loop
+mul-warm-3 c = omega (arith, c .before .before .before .before .before .before .before .before .joint-place .ensures .0)
+
+array-copy-out-warm-3 : tie.Need-array-copy-out-warm-3 Inv-loop μ-loop
+array-copy-out-warm-3 c = omega (arith, c .before .before .before .before .before .before .before .before .joint-place .ensures .0)
+
+warm-start-as-weld-requires : tie.Need-warm-start-as-weld-requires Inv-loop μ-loop
+warm-start-as-weld-requires c κs = tt
 
 mul-joint : tie.Need-mul-joint Inv-loop μ-loop
 mul-joint c = omega (arith, c .before .before .before .before .before .before .before .before .joint-place .ensures .0)
@@ -76,38 +103,11 @@ mul-joint c = omega (arith, c .before .before .before .before .before .before .b
 array-copy-out-joint : tie.Need-array-copy-out-joint Inv-loop μ-loop
 array-copy-out-joint c = omega (arith, c .before .before .before .before .before .before .before .before .joint-place .ensures .0)
 
-warm-start-as-revolute-requires : tie.Need-warm-start-as-revolute-requires Inv-loop μ-loop
-warm-start-as-revolute-requires c κs = search needs
-
-mul-joint-2 : tie.Need-mul-joint-2 Inv-loop μ-loop
-mul-joint-2 c = omega (arith, c .before .before .before .before .before .before .before .before .joint-place .ensures .0)
-
-array-copy-out-joint-2 : tie.Need-array-copy-out-joint-2 Inv-loop μ-loop
-array-copy-out-joint-2 c = omega (arith, c .before .before .before .before .before .before .before .before .joint-place .ensures .0)
-
-warm-start-as-spherical-requires : tie.Need-warm-start-as-spherical-requires Inv-loop μ-loop
-warm-start-as-spherical-requires c κs = search needs
-
-mul-joint-3 : tie.Need-mul-joint-3 Inv-loop μ-loop
-mul-joint-3 c = omega (arith, c .before .before .before .before .before .before .before .before .joint-place .ensures .0)
-
-array-copy-out-joint-3 : tie.Need-array-copy-out-joint-3 Inv-loop μ-loop
-array-copy-out-joint-3 c = omega (arith, c .before .before .before .before .before .before .before .before .joint-place .ensures .0)
-
-warm-start-as-weld-requires : tie.Need-warm-start-as-weld-requires Inv-loop μ-loop
-warm-start-as-weld-requires c κs = search needs
-
-mul-joint-4 : tie.Need-mul-joint-4 Inv-loop μ-loop
-mul-joint-4 c = omega (arith, c .before .before .before .before .before .before .before .before .joint-place .ensures .0)
-
-array-copy-out-joint-4 : tie.Need-array-copy-out-joint-4 Inv-loop μ-loop
-array-copy-out-joint-4 c = omega (arith, c .before .before .before .before .before .before .before .before .joint-place .ensures .0)
-
 solve-as-revolute-requires : tie.Need-solve-as-revolute-requires Inv-loop μ-loop
-solve-as-revolute-requires c κs = search needs
+solve-as-revolute-requires c κs = tt
 
 staged-joint-requires : tie.Need-staged-joint-requires Inv-loop μ-loop
-staged-joint-requires c κs = search needs
+staged-joint-requires c κs = tt
 
 mul-joints : tie.Need-mul-joints Inv-loop μ-loop
 mul-joints c = omega (arith, c .before .before .before .before .before .before .before .before .before .before .before .joint-place .ensures .0)
@@ -115,17 +115,17 @@ mul-joints c = omega (arith, c .before .before .before .before .before .before .
 array-set-from-joints : tie.Need-array-set-from-joints Inv-loop μ-loop
 array-set-from-joints c = omega (arith, c .before .before .before .before .before .before .before .before .before .before .before .joint-place .ensures .0)
 
-mul-joint-5 : tie.Need-mul-joint-5 Inv-loop μ-loop
-mul-joint-5 c = omega (arith, c .before .before .before .before .before .before .before .before .joint-place .ensures .0)
+mul-joint-2 : tie.Need-mul-joint-2 Inv-loop μ-loop
+mul-joint-2 c = omega (arith, c .before .before .before .before .before .before .before .before .joint-place .ensures .0)
 
-array-copy-out-joint-5 : tie.Need-array-copy-out-joint-5 Inv-loop μ-loop
-array-copy-out-joint-5 c = omega (arith, c .before .before .before .before .before .before .before .before .joint-place .ensures .0)
+array-copy-out-joint-2 : tie.Need-array-copy-out-joint-2 Inv-loop μ-loop
+array-copy-out-joint-2 c = omega (arith, c .before .before .before .before .before .before .before .before .joint-place .ensures .0)
 
 solve-as-spherical-requires : tie.Need-solve-as-spherical-requires Inv-loop μ-loop
-solve-as-spherical-requires c κs = search needs
+solve-as-spherical-requires c κs = tt
 
 staged-joint-requires-2 : tie.Need-staged-joint-requires-2 Inv-loop μ-loop
-staged-joint-requires-2 c κs = search needs
+staged-joint-requires-2 c κs = tt
 
 mul-joints-2 : tie.Need-mul-joints-2 Inv-loop μ-loop
 mul-joints-2 c = omega (arith, c .before .before .before .before .before .before .before .before .before .before .before .joint-place .ensures .0)
@@ -133,17 +133,17 @@ mul-joints-2 c = omega (arith, c .before .before .before .before .before .before
 array-set-from-joints-2 : tie.Need-array-set-from-joints-2 Inv-loop μ-loop
 array-set-from-joints-2 c = omega (arith, c .before .before .before .before .before .before .before .before .before .before .before .joint-place .ensures .0)
 
-mul-joint-6 : tie.Need-mul-joint-6 Inv-loop μ-loop
-mul-joint-6 c = omega (arith, c .before .before .before .before .before .before .before .before .joint-place .ensures .0)
+mul-joint-3 : tie.Need-mul-joint-3 Inv-loop μ-loop
+mul-joint-3 c = omega (arith, c .before .before .before .before .before .before .before .before .joint-place .ensures .0)
 
-array-copy-out-joint-6 : tie.Need-array-copy-out-joint-6 Inv-loop μ-loop
-array-copy-out-joint-6 c = omega (arith, c .before .before .before .before .before .before .before .before .joint-place .ensures .0)
+array-copy-out-joint-3 : tie.Need-array-copy-out-joint-3 Inv-loop μ-loop
+array-copy-out-joint-3 c = omega (arith, c .before .before .before .before .before .before .before .before .joint-place .ensures .0)
 
 solve-as-weld-requires : tie.Need-solve-as-weld-requires Inv-loop μ-loop
-solve-as-weld-requires c κs = search needs
+solve-as-weld-requires c κs = tt
 
 staged-joint-requires-3 : tie.Need-staged-joint-requires-3 Inv-loop μ-loop
-staged-joint-requires-3 c κs = search needs
+staged-joint-requires-3 c κs = tt
 
 mul-joints-3 : tie.Need-mul-joints-3 Inv-loop μ-loop
 mul-joints-3 c = omega (arith, c .before .before .before .before .before .before .before .before .before .before .before .joint-place .ensures .0)
@@ -158,7 +158,7 @@ array-copy-out-again-a : tie.Need-array-copy-out-again-a Inv-loop μ-loop
 array-copy-out-again-a c = omega (arith, c .before .before .before .before .before .places-of .ensures .0, c .before .before .before .before .before .places-of .ensures .1)
 
 store-velocities-requires : tie.Need-store-velocities-requires Inv-loop μ-loop
-store-velocities-requires c κs = search needs
+store-velocities-requires c κs = tt
 
 mul-bodies : tie.Need-mul-bodies Inv-loop μ-loop
 mul-bodies c = omega (arith, c .before .before .before .before .before .before .before .places-of .ensures .0, c .before .before .before .before .before .before .before .places-of .ensures .1)
@@ -173,7 +173,7 @@ array-copy-out-again-b : tie.Need-array-copy-out-again-b Inv-loop μ-loop
 array-copy-out-again-b c = omega (arith, c .before .before .before .before .before .before .before .places-of .ensures .0, c .before .before .before .before .before .before .before .places-of .ensures .1)
 
 store-velocities-requires-2 : tie.Need-store-velocities-requires-2 Inv-loop μ-loop
-store-velocities-requires-2 c κs = search needs
+store-velocities-requires-2 c κs = tt
 
 mul-bodies-2 : tie.Need-mul-bodies-2 Inv-loop μ-loop
 mul-bodies-2 c = omega (arith, c .before .before .before .before .before .before .before .before .before .places-of .ensures .0, c .before .before .before .before .before .before .before .before .before .places-of .ensures .1)
@@ -245,23 +245,24 @@ loop-again c =
     (omega (arith, room), omega (arith, l .loop .inv .1), more)
 
 without-identity-requires : tie.Need-without-identity-requires Inv-loop μ-loop
-without-identity-requires c κs = search needs
+without-identity-requires c κs = tt
 
 returns : tie.Need-returns Inv-loop μ-loop
 returns c =
-    let l = c .before .before in
+    let w = c .before in
+    let l = w .before .before in
     let r = l .before .before .before .before .before .args in
-    midst-done (r .scene) (r .list .now) (l .loop .joints) (l .loop .bodies) (l .loop .i) (l .loop .inv .2) (c .without-identity .result) (omega (arith, c .before .loop-test .left)) (c .without-identity .ensures)
+    midst-done (r .scene) (r .list .now) (l .loop .joints) (l .loop .bodies) (l .loop .i) (l .loop .inv .2) (w .without-identity .result) (omega (arith, w .before .loop-test .left)) (w .without-identity .ensures)
 
 pub run-calls-spec : {M : Type 1} → statement M
 run-calls-spec =
     tie.close
     (tie.spec
     Inv-loop μ-loop with-identity-requires loop-holds shared-slice-read-joint-place joint-place-requires add-stage shared-slice-read-stage mul-named
-    array-copy-out-named places-of-requires mul-a array-copy-out-a mul-b array-copy-out-b velocities-of-requires stage-code-requires mul-joint
-    array-copy-out-joint warm-start-as-revolute-requires mul-joint-2 array-copy-out-joint-2 warm-start-as-spherical-requires mul-joint-3
-    array-copy-out-joint-3 warm-start-as-weld-requires mul-joint-4 array-copy-out-joint-4 solve-as-revolute-requires staged-joint-requires
-    mul-joints array-set-from-joints mul-joint-5 array-copy-out-joint-5 solve-as-spherical-requires staged-joint-requires-2 mul-joints-2
-    array-set-from-joints-2 mul-joint-6 array-copy-out-joint-6 solve-as-weld-requires staged-joint-requires-3 mul-joints-3 array-set-from-joints-3
+    array-copy-out-named places-of-requires mul-a array-copy-out-a mul-b array-copy-out-b velocities-of-requires stage-code-requires mul-warm
+    array-copy-out-warm warm-start-as-revolute-requires mul-warm-2 array-copy-out-warm-2 warm-start-as-spherical-requires mul-warm-3
+    array-copy-out-warm-3 warm-start-as-weld-requires mul-joint array-copy-out-joint solve-as-revolute-requires staged-joint-requires
+    mul-joints array-set-from-joints mul-joint-2 array-copy-out-joint-2 solve-as-spherical-requires staged-joint-requires-2 mul-joints-2
+    array-set-from-joints-2 mul-joint-3 array-copy-out-joint-3 solve-as-weld-requires staged-joint-requires-3 mul-joints-3 array-set-from-joints-3
     mul-again-a array-copy-out-again-a store-velocities-requires mul-bodies array-set-from-bodies mul-again-b array-copy-out-again-b
     store-velocities-requires-2 mul-bodies-2 array-set-from-bodies-2 add-i loop-less loop-again without-identity-requires returns)
