@@ -1,2 +1,1 @@
-mod Elements
 mod Lists

@@ -1,29 +1,28 @@
--- Laws on a list of calls, as the loops go through its bytes. Assumes nothing.
+-- Laws on the tests of a list, as the loops make them, and on a run. Assumes nothing.
 use mathlib.Core.Path.{_≡_, refl, sym, ap, _∙_}
 use mathlib.Core.Logic.{_≢_}
 use mathlib.Core.Bool.{Bool, true, false, cond, _||_, _&&_}
-use mathlib.Core.List.{List, [], _∷_, _++_, map, append-nil}
-use Prim.Native.Nat.{ℕ, zero, suc, _+_, _%_, _≤_, _<_}
-use native.Mathlib.Numerals.{add-one, add-two}
+use mathlib.Core.List.{List, [], _++_, map, append-nil}
+use Prim.Native.Nat.{ℕ, _+_, _%_, _≤_, _<_}
+use native.Mathlib.Numerals.{add-one}
 use native.Mathlib.Omega.{arith}
 use lib.Dec.{eqb, ltb, leb}
-use lib.ListN.{length, getD, set, take, drop, length-map, length-drop, length-set, replicate, length-replicate, List·getD-map}
-use lib.Seq.{drop-cons, take-at, take-all}
+use lib.ListN.{length, getD, set, take, drop, length-map, replicate, length-replicate, List·getD-map}
+use lib.Seq.{take-all}
 use borrow.Author.Tests.{eq-eqb, ne-eqb, eqb-true, eqb-false, ltb-false, leb-false}
 use Rattle.records.specs.declared.body.BodyState.{BodyState}
 use Rattle.records.specs.declared.joint.JointSim.{JointSim}
 use Rattle.records.specs.Body.{identityBodyState}
 use Rattle.scene.specs.declared.Scene.{Scene}
 use Rattle.scene.specs.declared.Verdict.{Verdict}
-use Rattle.scene.specs.Reorder.{Every}
 use Rattle.records.specs.Joint.{unusedJoint}
 use Rattle.scene.specs.Calls.{call, calls}
-use Rattle.scene.specs.Plain.{jointCause, callCause, cause, verdictOf, firstCause, earlyCause, verdict, Accepted, step, runCalls, sameVelocities, sameBelow, isStill, done, refused, plainRun}
+use Rattle.scene.specs.Plain.{jointCause, callCause, cause, verdictOf, firstCause, earlyCause, verdict, Accepted, runCalls, sameVelocities, sameBelow, isStill, done, refused, plainRun}
 use Rattle.scene.specs.Accepted.{run-accepted, run-refused}
-use Rattle.scene.specs.Counted.{accepted-slots}
 use Rattle.call_list.specs.Causes.{jointCauses}
-use Rattle.call_list.specs.Places.{jointPlace, withIdentity}
-use Rattle.call_list.proofs.Elements.{getD-any, joint-place-in, remade, fill-more}
+use Rattle.calls.specs.Places.{jointPlace}
+use Rattle.calls.proofs.Elements.{getD-any, joint-place-in, fill-more}
+use Rattle.calls.proofs.Lists.{calls-here, calls-end}
 
 -- ---- the tests before the calls
 
@@ -68,33 +67,17 @@ accepted-early s l a = early-none (s .«body_count») (s .«joint_count») (leng
     by true e = eqb-true early 0 e
     by false e = ap (λ v. v .number) (verdict-early s l early refl (eqb-false early 0 e)) ∙ a
 
--- ---- the call at a byte
+-- ---- the check's loop
 
-short-calls : (m : List ℕ) → length m ≤ 1 → calls m ≡ []
-short-calls [] h = refl
-short-calls (x ∷ []) h = refl
-short-calls (x ∷ y ∷ m) h = absurd (omega arith)
+module _ (l : List ℕ) (i : ℕ) (s : Scene) (p : ℕ) (z : Verdict) (q : firstCause s p (calls (drop i l)) ≡ z) where
+  pub check-more : (c : ℕ) → i + 1 < length l → c ≡ cause s (call (getD l i 0) (getD l (i + 1) 0)) → c ≡ 0 → firstCause s (p + 1) (calls (drop (i + 2) l)) ≡ z
+  check-more c h e o = rw (eq-eqb (cause s (call (getD l i 0) (getD l (i + 1) 0))) 0 (sym e ∙ o)) at (rw (calls-here l i h) at q)
 
-module _ (l : List ℕ) (i : ℕ) where
-  calls-here : i + 1 < length l → calls (drop i l) ≡ call (getD l i 0) (getD l (i + 1) 0) ∷ calls (drop (i + 2) l)
-  calls-here h =
-      let a : i < length l = omega arith in
-      let b : suc i < length l = omega arith in
-      rw (add-one i, add-two i, drop-cons l i 0 a, drop-cons l (suc i) 0 b)
+  pub check-stop : (c : ℕ) → i + 1 < length l → c ≡ cause s (call (getD l i 0) (getD l (i + 1) 0)) → c ≢ 0 → verdictOf c p ≡ z
+  check-stop c h e o = rw e (rw (ne-eqb (cause s (call (getD l i 0) (getD l (i + 1) 0))) 0 (λ x. o (e ∙ x))) at (rw (calls-here l i h) at q))
 
-  calls-end : length l ≤ i → calls (drop i l) ≡ []
-  calls-end h = short-calls (drop i l) (rw (length-drop i l) (omega arith))
-
-  -- the check's loop
-  module _ (s : Scene) (p : ℕ) (z : Verdict) (q : firstCause s p (calls (drop i l)) ≡ z) where
-    pub check-more : (c : ℕ) → i + 1 < length l → c ≡ cause s (call (getD l i 0) (getD l (i + 1) 0)) → c ≡ 0 → firstCause s (p + 1) (calls (drop (i + 2) l)) ≡ z
-    check-more c h e o = rw (eq-eqb (cause s (call (getD l i 0) (getD l (i + 1) 0))) 0 (sym e ∙ o)) at (rw (calls-here h) at q)
-
-    pub check-stop : (c : ℕ) → i + 1 < length l → c ≡ cause s (call (getD l i 0) (getD l (i + 1) 0)) → c ≢ 0 → verdictOf c p ≡ z
-    check-stop c h e o = rw e (rw (ne-eqb (cause s (call (getD l i 0) (getD l (i + 1) 0))) 0 (λ x. o (e ∙ x))) at (rw (calls-here h) at q))
-
-    pub check-end : length l ≤ i → verdictOf 0 0 ≡ z
-    check-end h = rw (calls-end h) at q
+  pub check-end : length l ≤ i → verdictOf 0 0 ≡ z
+  check-end h = rw (calls-end l i (omega (arith, h))) at q
 
 -- a call's cause, from the table of its joints' causes
 pub cause-is : (s : Scene) (causes : List ℕ) (slot stage at d c : ℕ) → length (s .joints) ≡ 32 → s .«joint_count» ≤ 32 → causes ≡ jointCauses s → at ≡ jointPlace slot
@@ -131,47 +114,6 @@ causes-all s w k long e q =
     let of : JointSim → ℕ = λ joint. jointCause (s .«body_count») (joint .«union_») in
     let n : length (map of (s .joints)) ≤ 32 = rw (length-map (s .joints) of, long) (omega arith) in
     q ∙ rw e (ap (λ l. l ++ []) (take-all 32 (map of (s .joints)) n) ∙ append-nil (map of (s .joints)))
-
--- ---- the run's loop
-
--- the loop's state: `us` and `js` after the calls before the byte `i`
-pub record Midst (s : Scene) (l : List ℕ) (js : List JointSim) (bs : List BodyState) (i : ℕ) : Type 0 where
-  pub us : List BodyState
-  pub holds : bs ≡ withIdentity us
-  pub long-bodies : length us ≡ 32
-  pub long-joints : length js ≡ 32
-  pub slots : Every (λ c. c .slot < s .«joint_count») (calls (drop i l))
-  pub made : runCalls (calls (drop i l)) (remade s us js) ≡ runCalls (calls l) s
-
-pub midst-start : (s : Scene) (l : List ℕ) (bs : List BodyState) → Accepted s l → length (s .bodies) ≡ 32 → length (s .joints) ≡ 32 → bs ≡ withIdentity (s .bodies) → Midst s l (s .joints) bs 0
-midst-start s l bs a b j e = record { us = s .bodies; holds = e; long-bodies = b; long-joints = j; slots = accepted-slots s l a; made = refl }
-
-module _ (s : Scene) (l : List ℕ) (js : List JointSim) (bs : List BodyState) (i : ℕ) (w : Midst s l js bs i) where
-  slots-here : i + 1 < length l → (getD l i 0 < s .«joint_count») × Every (λ c. c .slot < s .«joint_count») (calls (drop (i + 2) l))
-  slots-here h = rw (calls-here l i h) at (w .slots)
-
-  pub slot-low : i + 1 < length l → s .«joint_count» ≤ 32 → getD l i 0 < 32
-  slot-low h few = omega (arith, slots-here h .0)
-
-  pub midst-more : (us : List BodyState) (ws : List BodyState) (at : ℕ) (n : JointSim) (next : List JointSim) → i + 1 < length l → ws ≡ withIdentity us → length us ≡ 32
-      → remade s us (set js at n) ≡ step (call (getD l i 0) (getD l (i + 1) 0)) (remade s (w .us) js)
-      → next ≡ set js at n
-      → Midst s l next ws (i + 2)
-  midst-more us ws at n next h holds long g e =
-      record {
-        us = us;
-        holds = holds;
-        long-bodies = long;
-        long-joints = ap length e ∙ length-set js at n ∙ w .long-joints;
-        slots = slots-here h .1;
-        made = ap (runCalls (calls (drop (i + 2) l))) (ap (remade s us) e ∙ g) ∙ (rw (calls-here l i h) at (w .made));
-      }
-
-  pub midst-done : (are : List BodyState) → length l ≤ i → are ≡ take 32 bs → remade s are js ≡ runCalls (calls l) s
-  unfolding withIdentity
-  midst-done are h e =
-      let same : are ≡ w .us = e ∙ rw (w .holds) (take-at (w .us) (identityBodyState ∷ []) 32 (w .long-bodies)) in
-      ap (λ x. remade s x js) same ∙ (rw (calls-end l i h) at (w .made))
 
 -- ---- the run
 

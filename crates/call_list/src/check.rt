@@ -4,7 +4,7 @@ ghost use Rattle.scene.specs.Calls.{call};
 ghost use Rattle.joint.specs.Index.{isOther};
 ghost use Rattle.scene.specs.Plain.{jointCause, callCause, earlyCause, verdict};
 ghost use Rattle.call_list.specs.Causes.{jointCauses};
-use crate::places::joint_place;
+use calls::places::joint_place;
 use joint::index::index_cause;
 use records::joint::JointUnion;
 use scene::Scene;

@@ -31,7 +31,7 @@ array-copy-out-b : tie.Need-array-copy-out-b Inv-loop μ-loop
 array-copy-out-b c = search needs
 
 same-velocities-requires : tie.Need-same-velocities-requires Inv-loop μ-loop
-same-velocities-requires c κs = search needs
+same-velocities-requires c κs = tt
 
 add-k : tie.Need-add-k Inv-loop μ-loop
 add-k c = search needs

@@ -6,7 +6,7 @@ use Rattle.call_list.proofs.run_list.Statement.{statement}
 use Rattle.call_list.proofs.run_list.Tie as tie
 
 check-list-requires : tie.Need-check-list-requires
-check-list-requires c κs = search needs
+check-list-requires c κs = tt
 
 returns : tie.Need-returns
 returns c =
@@ -15,7 +15,7 @@ returns c =
     refused-is (r .scene) (r .list .now) (v .result) (v .ensures) (c .if1 .taken)
 
 run-calls-requires : tie.Need-run-calls-requires
-run-calls-requires c κs = ap (λ x. x .number) (sym (c .before .before .check-list .ensures)) ∙ c .if1 .left
+run-calls-requires c κs = tt
 
 is-still-requires : tie.Need-is-still-requires
 is-still-requires c κs =

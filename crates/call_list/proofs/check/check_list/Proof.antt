@@ -6,7 +6,7 @@ use lib.ListN.{length, drop}
 use borrow.Author.Needs.{needs}
 use Rattle.scene.specs.Calls.{calls}
 use Rattle.scene.specs.Plain.{firstCause}
-use Rattle.call_list.proofs.Elements.{joints-long}
+use Rattle.calls.proofs.Elements.{joints-long}
 use Rattle.call_list.proofs.Lists.{early-none, verdict-early, verdict-late, cause-is, check-more, check-stop, check-end}
 use Rattle.call_list.proofs.check.check_list.Statement.{statement}
 use Rattle.call_list.proofs.check.check_list.Tie as tie
@@ -18,7 +18,7 @@ abbrev μ-loop : tie.MeasureT-loop
 μ-loop scene list n early causes i₀ place₀ i place = n - i
 
 early-cause-requires : tie.Need-early-cause-requires Inv-loop μ-loop
-early-cause-requires c κs = search needs
+early-cause-requires c κs = tt
 
 returns : tie.Need-returns Inv-loop μ-loop
 returns c =
@@ -26,7 +26,7 @@ returns c =
     verdict-early (r .scene) (r .list .now) (c .before .early-cause .result) (c .before .early-cause .ensures) (c .if1 .taken)
 
 joint-causes-requires : tie.Need-joint-causes-requires Inv-loop μ-loop
-joint-causes-requires c κs = search needs
+joint-causes-requires c κs = tt
 
 loop-holds : tie.Need-loop-holds Inv-loop μ-loop
 loop-holds c = (search needs, search needs, refl)
@@ -35,7 +35,7 @@ shared-slice-read-slot : tie.Need-shared-slice-read-slot Inv-loop μ-loop
 shared-slice-read-slot c = search needs
 
 joint-place-requires : tie.Need-joint-place-requires Inv-loop μ-loop
-joint-place-requires c κs = search needs
+joint-place-requires c κs = tt
 
 mul-of-joint : tie.Need-mul-of-joint Inv-loop μ-loop
 mul-of-joint c = search needs
@@ -55,7 +55,7 @@ shared-slice-read-call-cause c =
     omega (arith, none .even, l .loop .inv .1, c .before .before .before .loop-test .taken)
 
 call-cause-requires : tie.Need-call-cause-requires Inv-loop μ-loop
-call-cause-requires c κs = search needs
+call-cause-requires c κs = tt
 
 returns-2 : tie.Need-returns-2 Inv-loop μ-loop
 returns-2 c =

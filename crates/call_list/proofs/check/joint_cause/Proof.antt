@@ -5,13 +5,13 @@ use Rattle.call_list.proofs.check.joint_cause.Statement.{statement}
 use Rattle.call_list.proofs.check.joint_cause.Tie as tie
 
 is-other-requires : tie.Need-is-other-requires
-is-other-requires c κs = search needs
+is-other-requires c κs = tt
 
 returns : tie.Need-returns
 returns c = rw (sym (c .before .is-other .ensures) ∙ c .if1 .taken)
 
 index-cause-requires : tie.Need-index-cause-requires
-index-cause-requires c κs = search needs
+index-cause-requires c κs = tt
 
 returns-2 : tie.Need-returns-2
 returns-2 c =

@@ -6,7 +6,7 @@ use native.Mathlib.Omega.{arith}
 use lib.ListN.{take, drop}
 use borrow.Author.Needs.{needs}
 use Rattle.call_list.specs.Causes.{jointCauses}
-use Rattle.call_list.proofs.Elements.{joints-long}
+use Rattle.calls.proofs.Elements.{joints-long}
 use Rattle.call_list.proofs.Lists.{causes-more, causes-all}
 use Rattle.call_list.proofs.check.joint_causes.Statement.{statement}
 use Rattle.call_list.proofs.check.joint_causes.Tie as tie
@@ -27,7 +27,7 @@ element-copy-out-joint : tie.Need-element-copy-out-joint Inv-loop μ-loop
 element-copy-out-joint c = search needs
 
 joint-cause-requires : tie.Need-joint-cause-requires Inv-loop μ-loop
-joint-cause-requires c κs = search needs
+joint-cause-requires c κs = tt
 
 mul-causes : tie.Need-mul-causes Inv-loop μ-loop
 mul-causes c = search needs

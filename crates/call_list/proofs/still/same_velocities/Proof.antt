@@ -5,10 +5,10 @@ use Rattle.call_list.proofs.still.same_velocities.Statement.{statement}
 use Rattle.call_list.proofs.still.same_velocities.Tie as tie
 
 same-vector-requires : tie.Need-same-vector-requires
-same-vector-requires c κs = search needs
+same-vector-requires c κs = tt
 
 same-vector-requires-2 : tie.Need-same-vector-requires-2
-same-vector-requires-2 c κs = search needs
+same-vector-requires-2 c κs = tt
 
 returns : tie.Need-returns
 unfolding sameVelocities

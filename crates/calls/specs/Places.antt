@@ -9,7 +9,7 @@ use Rattle.records.specs.declared.joint.JointUnion.{JointUnion}
 use Rattle.records.specs.declared.joint.JointUnion.the-variants.{Revolute, Spherical, Weld, Other}
 use Rattle.records.specs.Body.{identityBodyState}
 use Rattle.joint.specs.Index.{indexA, indexB}
-use Rattle.call_list.specs.declared.places.Places.{Places}
+use Rattle.calls.specs.declared.places.Places.{Places}
 
 -- a place among 32 bodies, or that of the identity state after them
 abbrev pub bodyPlace : ℤ → ℕ
@@ -19,12 +19,16 @@ bodyPlace (negsuc n) = 32
 abbrev pub placesOf : JointUnion → Places
 placesOf union = record { a = bodyPlace (indexA union); b = bodyPlace (indexB union) }
 
--- the stage of a kind in one number: a warm start's, a solve's, and 6 for the empty case
-unfoldable pub stageCode : JointUnion → ℕ → ℕ
-stageCode (Revolute j) stage = cond (eqb stage 0) 0 3
-stageCode (Spherical j) stage = cond (eqb stage 0) 1 4
-stageCode (Weld j) stage = cond (eqb stage 0) 2 5
-stageCode Other stage = 6
+-- a code, and 6 behind the last slot, where there is no joint
+unfoldable pub codeIn : ℕ → ℕ → ℕ
+codeIn slot code = cond (ltb slot 32) code 6
+
+-- the stage of a kind in one number: a warm start's, a solve's, and 6 where nothing is worked
+unfoldable pub stageCode : ℕ → JointUnion → ℕ → ℕ
+stageCode slot (Revolute j) stage = codeIn slot (cond (eqb stage 0) 0 3)
+stageCode slot (Spherical j) stage = codeIn slot (cond (eqb stage 0) 1 4)
+stageCode slot (Weld j) stage = codeIn slot (cond (eqb stage 0) 2 5)
+stageCode slot Other stage = 6
 
 -- a place among 32 joints
 unfoldable pub jointPlace : ℕ → ℕ

@@ -1,20 +1,20 @@
--- `run_calls` equals its definition: `bodies` and `joints` are those after the calls before the byte `i`. Assumes nothing.
+-- `run_calls` equals its definition: `bodies` and `joints` are those after the first `k` calls. Assumes nothing.
 use mathlib.Core.Path.{_≡_, refl, ap, _∙_}
 use mathlib.Core.Logic.{⊎-elim}
 use Prim.Native.Nat.{ℕ, _+_, _-_, _%_, _≤_, _<_}
 use native.Mathlib.Omega.{arith}
 use lib.ListN.{length}
 use borrow.Author.Needs.{needs}
-use Rattle.call_list.proofs.Elements.{bodies-long, joints-long, worked-warm, worked-solve, worked-none, turn-is}
-use Rattle.call_list.proofs.Lists.{accepted-early, Midst, midst-start, midst-more, midst-done, slot-low}
-use Rattle.call_list.proofs.run_calls.Statement.{statement}
-use Rattle.call_list.proofs.run_calls.Tie as tie
+use Rattle.calls.proofs.Elements.{bodies-long, joints-long, worked-warm, worked-solve, worked-none, turn-is}
+use Rattle.calls.proofs.Lists.{Midst, midst-start, midst-more, midst-done}
+use Rattle.calls.proofs.run_calls.Statement.{statement}
+use Rattle.calls.proofs.run_calls.Tie as tie
 
 abbrev Inv-loop : tie.InvT-loop
-Inv-loop scene list joints₀ bodies₀ h inv-h i₀ joints bodies i = (i ≤ length list) × (i % 2 ≡ 0) × Midst scene list joints bodies i
+Inv-loop scene list joints₀ bodies₀ h inv-h n k₀ joints bodies k = (k ≤ n) × Midst scene list joints bodies k
 
 abbrev μ-loop : tie.MeasureT-loop
-μ-loop scene list joints₀ bodies₀ h inv-h i₀ joints bodies i = length list - i
+μ-loop scene list joints₀ bodies₀ h inv-h n k₀ joints bodies k = n - k
 
 with-identity-requires : tie.Need-with-identity-requires Inv-loop μ-loop
 with-identity-requires c κs = tt
@@ -23,31 +23,32 @@ loop-holds : tie.Need-loop-holds Inv-loop μ-loop
 loop-holds c =
     let e = c .before .before .before .before in
     let r = e .args in
-    let start = midst-start (r .scene) (r .list .now) (c .with-identity .result) (e .pre) (bodies-long (r .scene) (e .good .0 .1 .1 .1 .0 .1 .0 .1)) (joints-long (r .scene) (e .good .0 .1 .1 .0 .1 .0 .1)) (c .with-identity .ensures) in
-    (search needs, search needs, start)
+    let start = midst-start (r .scene) (r .list .now) (c .with-identity .result) (bodies-long (r .scene) (e .good .0 .1 .1 .1 .0 .1 .0 .1)) (joints-long (r .scene) (e .good .0 .1 .1 .0 .1 .0 .1)) (c .with-identity .ensures) in
+    (search needs, start)
 
-shared-slice-read-joint-place : tie.Need-shared-slice-read-joint-place Inv-loop μ-loop
-shared-slice-read-joint-place c = search needs
+mul-slot : tie.Need-mul-slot Inv-loop μ-loop
+mul-slot c = search needs
 
-joint-place-requires : tie.Need-joint-place-requires Inv-loop μ-loop
-joint-place-requires c κs = tt
+shared-slice-read-slot : tie.Need-shared-slice-read-slot Inv-loop μ-loop
+shared-slice-read-slot c = search needs
+
+mul-stage : tie.Need-mul-stage Inv-loop μ-loop
+mul-stage c = search needs
 
 add-stage : tie.Need-add-stage Inv-loop μ-loop
 add-stage c = search needs
 
 shared-slice-read-stage : tie.Need-shared-slice-read-stage Inv-loop μ-loop
-shared-slice-read-stage c =
-    let l = c .before .before .before .before in
-    let e = l .before .before .before .before .before in
-    let r = e .args in
-    let none = accepted-early (r .scene) (r .list .now) (e .pre) in
-    omega (arith, none .even, l .loop .inv .1, c .before .before .before .loop-test .taken)
+shared-slice-read-stage c = search needs
+
+joint-place-requires : tie.Need-joint-place-requires Inv-loop μ-loop
+joint-place-requires c κs = tt
 
 mul-named : tie.Need-mul-named Inv-loop μ-loop
-mul-named c = omega (arith, c .before .joint-place .ensures .0)
+mul-named c = omega (arith, c .joint-place .ensures .0)
 
 array-copy-out-named : tie.Need-array-copy-out-named Inv-loop μ-loop
-array-copy-out-named c = omega (arith, c .before .joint-place .ensures .0)
+array-copy-out-named c = omega (arith, c .joint-place .ensures .0)
 
 places-of-requires : tie.Need-places-of-requires Inv-loop μ-loop
 places-of-requires c κs = tt
@@ -71,37 +72,37 @@ stage-code-requires : tie.Need-stage-code-requires Inv-loop μ-loop
 stage-code-requires c κs = tt
 
 mul-warm : tie.Need-mul-warm Inv-loop μ-loop
-mul-warm c = omega (arith, c .before .before .before .before .before .before .before .before .joint-place .ensures .0)
+mul-warm c = omega (arith, c .before .before .before .before .before .before .before .joint-place .ensures .0)
 
 array-copy-out-warm : tie.Need-array-copy-out-warm Inv-loop μ-loop
-array-copy-out-warm c = omega (arith, c .before .before .before .before .before .before .before .before .joint-place .ensures .0)
+array-copy-out-warm c = omega (arith, c .before .before .before .before .before .before .before .joint-place .ensures .0)
 
 warm-start-as-revolute-requires : tie.Need-warm-start-as-revolute-requires Inv-loop μ-loop
 warm-start-as-revolute-requires c κs = tt
 
 mul-warm-2 : tie.Need-mul-warm-2 Inv-loop μ-loop
-mul-warm-2 c = omega (arith, c .before .before .before .before .before .before .before .before .joint-place .ensures .0)
+mul-warm-2 c = omega (arith, c .before .before .before .before .before .before .before .joint-place .ensures .0)
 
 array-copy-out-warm-2 : tie.Need-array-copy-out-warm-2 Inv-loop μ-loop
-array-copy-out-warm-2 c = omega (arith, c .before .before .before .before .before .before .before .before .joint-place .ensures .0)
+array-copy-out-warm-2 c = omega (arith, c .before .before .before .before .before .before .before .joint-place .ensures .0)
 
 warm-start-as-spherical-requires : tie.Need-warm-start-as-spherical-requires Inv-loop μ-loop
 warm-start-as-spherical-requires c κs = tt
 
 mul-warm-3 : tie.Need-mul-warm-3 Inv-loop μ-loop
-mul-warm-3 c = omega (arith, c .before .before .before .before .before .before .before .before .joint-place .ensures .0)
+mul-warm-3 c = omega (arith, c .before .before .before .before .before .before .before .joint-place .ensures .0)
 
 array-copy-out-warm-3 : tie.Need-array-copy-out-warm-3 Inv-loop μ-loop
-array-copy-out-warm-3 c = omega (arith, c .before .before .before .before .before .before .before .before .joint-place .ensures .0)
+array-copy-out-warm-3 c = omega (arith, c .before .before .before .before .before .before .before .joint-place .ensures .0)
 
 warm-start-as-weld-requires : tie.Need-warm-start-as-weld-requires Inv-loop μ-loop
 warm-start-as-weld-requires c κs = tt
 
 mul-joint : tie.Need-mul-joint Inv-loop μ-loop
-mul-joint c = omega (arith, c .before .before .before .before .before .before .before .before .joint-place .ensures .0)
+mul-joint c = omega (arith, c .before .before .before .before .before .before .before .joint-place .ensures .0)
 
 array-copy-out-joint : tie.Need-array-copy-out-joint Inv-loop μ-loop
-array-copy-out-joint c = omega (arith, c .before .before .before .before .before .before .before .before .joint-place .ensures .0)
+array-copy-out-joint c = omega (arith, c .before .before .before .before .before .before .before .joint-place .ensures .0)
 
 solve-as-revolute-requires : tie.Need-solve-as-revolute-requires Inv-loop μ-loop
 solve-as-revolute-requires c κs = tt
@@ -110,16 +111,16 @@ staged-joint-requires : tie.Need-staged-joint-requires Inv-loop μ-loop
 staged-joint-requires c κs = tt
 
 mul-joints : tie.Need-mul-joints Inv-loop μ-loop
-mul-joints c = omega (arith, c .before .before .before .before .before .before .before .before .before .before .before .joint-place .ensures .0)
+mul-joints c = omega (arith, c .before .before .before .before .before .before .before .before .before .before .joint-place .ensures .0)
 
 array-set-from-joints : tie.Need-array-set-from-joints Inv-loop μ-loop
-array-set-from-joints c = omega (arith, c .before .before .before .before .before .before .before .before .before .before .before .joint-place .ensures .0)
+array-set-from-joints c = omega (arith, c .before .before .before .before .before .before .before .before .before .before .joint-place .ensures .0)
 
 mul-joint-2 : tie.Need-mul-joint-2 Inv-loop μ-loop
-mul-joint-2 c = omega (arith, c .before .before .before .before .before .before .before .before .joint-place .ensures .0)
+mul-joint-2 c = omega (arith, c .before .before .before .before .before .before .before .joint-place .ensures .0)
 
 array-copy-out-joint-2 : tie.Need-array-copy-out-joint-2 Inv-loop μ-loop
-array-copy-out-joint-2 c = omega (arith, c .before .before .before .before .before .before .before .before .joint-place .ensures .0)
+array-copy-out-joint-2 c = omega (arith, c .before .before .before .before .before .before .before .joint-place .ensures .0)
 
 solve-as-spherical-requires : tie.Need-solve-as-spherical-requires Inv-loop μ-loop
 solve-as-spherical-requires c κs = tt
@@ -128,16 +129,16 @@ staged-joint-requires-2 : tie.Need-staged-joint-requires-2 Inv-loop μ-loop
 staged-joint-requires-2 c κs = tt
 
 mul-joints-2 : tie.Need-mul-joints-2 Inv-loop μ-loop
-mul-joints-2 c = omega (arith, c .before .before .before .before .before .before .before .before .before .before .before .joint-place .ensures .0)
+mul-joints-2 c = omega (arith, c .before .before .before .before .before .before .before .before .before .before .joint-place .ensures .0)
 
 array-set-from-joints-2 : tie.Need-array-set-from-joints-2 Inv-loop μ-loop
-array-set-from-joints-2 c = omega (arith, c .before .before .before .before .before .before .before .before .before .before .before .joint-place .ensures .0)
+array-set-from-joints-2 c = omega (arith, c .before .before .before .before .before .before .before .before .before .before .joint-place .ensures .0)
 
 mul-joint-3 : tie.Need-mul-joint-3 Inv-loop μ-loop
-mul-joint-3 c = omega (arith, c .before .before .before .before .before .before .before .before .joint-place .ensures .0)
+mul-joint-3 c = omega (arith, c .before .before .before .before .before .before .before .joint-place .ensures .0)
 
 array-copy-out-joint-3 : tie.Need-array-copy-out-joint-3 Inv-loop μ-loop
-array-copy-out-joint-3 c = omega (arith, c .before .before .before .before .before .before .before .before .joint-place .ensures .0)
+array-copy-out-joint-3 c = omega (arith, c .before .before .before .before .before .before .before .joint-place .ensures .0)
 
 solve-as-weld-requires : tie.Need-solve-as-weld-requires Inv-loop μ-loop
 solve-as-weld-requires c κs = tt
@@ -146,10 +147,10 @@ staged-joint-requires-3 : tie.Need-staged-joint-requires-3 Inv-loop μ-loop
 staged-joint-requires-3 c κs = tt
 
 mul-joints-3 : tie.Need-mul-joints-3 Inv-loop μ-loop
-mul-joints-3 c = omega (arith, c .before .before .before .before .before .before .before .before .before .before .before .joint-place .ensures .0)
+mul-joints-3 c = omega (arith, c .before .before .before .before .before .before .before .before .before .before .joint-place .ensures .0)
 
 array-set-from-joints-3 : tie.Need-array-set-from-joints-3 Inv-loop μ-loop
-array-set-from-joints-3 c = omega (arith, c .before .before .before .before .before .before .before .before .before .before .before .joint-place .ensures .0)
+array-set-from-joints-3 c = omega (arith, c .before .before .before .before .before .before .before .before .before .before .joint-place .ensures .0)
 
 mul-again-a : tie.Need-mul-again-a Inv-loop μ-loop
 mul-again-a c = omega (arith, c .before .before .before .before .before .places-of .ensures .0, c .before .before .before .before .before .places-of .ensures .1)
@@ -181,13 +182,8 @@ mul-bodies-2 c = omega (arith, c .before .before .before .before .before .before
 array-set-from-bodies-2 : tie.Need-array-set-from-bodies-2 Inv-loop μ-loop
 array-set-from-bodies-2 c = omega (arith, c .before .before .before .before .before .before .before .before .before .places-of .ensures .0, c .before .before .before .before .before .before .before .before .before .places-of .ensures .1)
 
-add-i : tie.Need-add-i Inv-loop μ-loop
-add-i c =
-    let l = c .before .before .before .before .before .before .before .before .before .before .before .before .before .before .before in
-    let e = l .before .before .before .before .before in
-    let r = e .args in
-    let none = accepted-early (r .scene) (r .list .now) (e .pre) in
-    omega (arith, none .short, l .loop .inv .0)
+add-k : tie.Need-add-k Inv-loop μ-loop
+add-k c = let f = add-stage (c .before .before .before .before .before .before .before .before .before .before .before .before .before) in omega (arith, f .fits)
 
 loop-less : tie.Need-loop-less Inv-loop μ-loop
 loop-less c =
@@ -199,10 +195,9 @@ loop-again c =
     let l = c .before .before .before .before .before .before .before .before .before .before .before .before .before .before .before in
     let e = l .before .before .before .before .before in
     let r = e .args in
-    let none = accepted-early (r .scene) (r .list .now) (e .pre) in
-    let w = l .loop .inv .2 in
+    let w = l .loop .inv .1 in
     let js = l .loop .joints in
-    let at = c .before .before .before .before .before .before .before .before .before .before .before .before .joint-place in
+    let at = c .before .before .before .before .before .before .before .before .before .before .before .joint-place in
     let places = c .before .before .before .before .before .before .before .before .before .places-of in
     let seen = c .before .before .before .before .before .before .velocities-of in
     let code = c .before .before .before .before .before .stage-code in
@@ -211,28 +206,27 @@ loop-again c =
     let b = c .store-velocities2 in
     let left =
     ⊎-elim
-    (λ z. worked-warm js (at .result) _ _ _ _ _ _ (code .result) (m .joints) (m .v) (code .ensures) 0 (z .0 .keys1) (omega arith) (z .4 ∙ z .2 .ensures) (z .3))
+    (λ z. worked-warm js (at .result) _ _ _ _ _ _ _ (code .result) (m .joints) (m .v) (code .ensures) 0 (z .0 .keys1) (omega arith) (z .4 ∙ z .2 .ensures) (z .3))
     (⊎-elim
-    (λ z. worked-warm js (at .result) _ _ _ _ _ _ (code .result) (m .joints) (m .v) (code .ensures) 1 (z .0 .keys2) (omega arith) (z .4 ∙ z .2 .ensures) (z .3))
+    (λ z. worked-warm js (at .result) _ _ _ _ _ _ _ (code .result) (m .joints) (m .v) (code .ensures) 1 (z .0 .keys2) (omega arith) (z .4 ∙ z .2 .ensures) (z .3))
     (⊎-elim
-    (λ z. worked-warm js (at .result) _ _ _ _ _ _ (code .result) (m .joints) (m .v) (code .ensures) 2 (z .0 .keys3) (omega arith) (z .4 ∙ z .2 .ensures) (z .3))
+    (λ z. worked-warm js (at .result) _ _ _ _ _ _ _ (code .result) (m .joints) (m .v) (code .ensures) 2 (z .0 .keys3) (omega arith) (z .4 ∙ z .2 .ensures) (z .3))
     (⊎-elim
-    (λ z. worked-solve js (at .result) _ _ _ _ _ _ (code .result) (m .joints) (m .v) (code .ensures) 0 (z .2 .result) (z .3 .result) (z .0 .keys4) (omega arith) (z .2 .ensures) (z .3 .ensures) (z .5) (z .6))
+    (λ z. worked-solve js (at .result) _ _ _ _ _ _ _ (code .result) (m .joints) (m .v) (code .ensures) 0 (z .2 .result) (z .3 .result) (z .0 .keys4) (omega arith) (z .2 .ensures) (z .3 .ensures) (z .5) (z .6))
     (⊎-elim
-    (λ z. worked-solve js (at .result) _ _ _ _ _ _ (code .result) (m .joints) (m .v) (code .ensures) 1 (z .2 .result) (z .3 .result) (z .0 .keys5) (omega arith) (z .2 .ensures) (z .3 .ensures) (z .5) (z .6))
+    (λ z. worked-solve js (at .result) _ _ _ _ _ _ _ (code .result) (m .joints) (m .v) (code .ensures) 1 (z .2 .result) (z .3 .result) (z .0 .keys5) (omega arith) (z .2 .ensures) (z .3 .ensures) (z .5) (z .6))
     (⊎-elim
-    (λ z. worked-solve js (at .result) _ _ _ _ _ _ (code .result) (m .joints) (m .v) (code .ensures) 2 (z .2 .result) (z .3 .result) (z .0 .keys6) (omega arith) (z .2 .ensures) (z .3 .ensures) (z .5) (z .6))
-    (λ z. worked-none js (at .result) _ _ _ _ _ _ (code .result) (m .joints) (m .v) (code .ensures) (z .0 .rest .0 .0 .0 .0 .0 .1) (z .0 .rest .0 .0 .0 .0 .1) (z .0 .rest .0 .0 .0 .1) (z .0 .rest .0 .0 .1) (z .0 .rest .0 .1) (z .0 .rest .1) (z .1) (z .2 ∙ seen .ensures)))))))
+    (λ z. worked-solve js (at .result) _ _ _ _ _ _ _ (code .result) (m .joints) (m .v) (code .ensures) 2 (z .2 .result) (z .3 .result) (z .0 .keys6) (omega arith) (z .2 .ensures) (z .3 .ensures) (z .5) (z .6))
+    (λ z. worked-none js (at .result) _ _ _ _ _ _ _ (code .result) (m .joints) (m .v) (code .ensures) (z .0 .rest .0 .0 .0 .0 .0 .1) (z .0 .rest .0 .0 .0 .0 .1) (z .0 .rest .0 .0 .0 .1) (z .0 .rest .0 .0 .1) (z .0 .rest .0 .1) (z .0 .rest .1) (z .1) (z .2 ∙ seen .ensures)))))))
     (m .came)
     in
-    let room : l .loop .i + 1 < length (r .list .now) = omega (arith, none .even, l .loop .inv .1, c .before .before .before .before .before .before .before .before .before .before .before .before .before .before .loop-test .taken) in
-    let low = slot-low (r .scene) (r .list .now) js (l .loop .bodies) (l .loop .i) w room (none .few-joints) in
+    let t = c .before .before .before .before .before .before .before .before .before .before .before .before .before .before .loop-test .taken in
     let turn =
-    turn-is (r .scene) js (w .us) (l .loop .bodies) _ _ (at .result) (places .result .a) (places .result .b) _ _ (a .result) (b .result) _ (m .v)
+    turn-is (r .scene) js (w .us) (l .loop .bodies) _ _ (at .result) (places .result .a) (places .result .b) _ _ (a .result) (b .result) _
     (w .long-bodies)
     (w .long-joints)
     (w .holds)
-    low
+    (m .v)
     (at .ensures .1)
     (ap (λ x. x .a) (places .ensures .2))
     (ap (λ x. x .b) (places .ensures .2))
@@ -241,8 +235,7 @@ loop-again c =
     (a .ensures)
     (b .ensures)
     in
-    let more = midst-more (r .scene) (r .list .now) js (l .loop .bodies) (l .loop .i) w (turn .0) _ (at .result) _ (m .joints) room (turn .1) (turn .2) (turn .3) (left .stored) in
-    (omega (arith, room), omega (arith, l .loop .inv .1), more)
+    (omega (arith, t), midst-more (r .scene) (r .list .now) js (l .loop .bodies) (l .loop .k) w _ (at .result) _ (m .joints) (omega (arith, t)) turn (left .stored))
 
 without-identity-requires : tie.Need-without-identity-requires Inv-loop μ-loop
 without-identity-requires c κs = tt
@@ -252,17 +245,17 @@ returns c =
     let w = c .before in
     let l = w .before .before in
     let r = l .before .before .before .before .before .args in
-    midst-done (r .scene) (r .list .now) (l .loop .joints) (l .loop .bodies) (l .loop .i) (l .loop .inv .2) (w .without-identity .result) (omega (arith, w .before .loop-test .left)) (w .without-identity .ensures)
+    midst-done (r .scene) (r .list .now) (l .loop .joints) (l .loop .bodies) (l .loop .k) (l .loop .inv .1) (w .without-identity .result) (omega (arith, w .before .loop-test .left)) (w .without-identity .ensures)
 
 pub run-calls-spec : {M : Type 1} → statement M
 run-calls-spec =
     tie.close
     (tie.spec
-    Inv-loop μ-loop with-identity-requires loop-holds shared-slice-read-joint-place joint-place-requires add-stage shared-slice-read-stage mul-named
+    Inv-loop μ-loop with-identity-requires loop-holds mul-slot shared-slice-read-slot mul-stage add-stage shared-slice-read-stage joint-place-requires mul-named
     array-copy-out-named places-of-requires mul-a array-copy-out-a mul-b array-copy-out-b velocities-of-requires stage-code-requires mul-warm
     array-copy-out-warm warm-start-as-revolute-requires mul-warm-2 array-copy-out-warm-2 warm-start-as-spherical-requires mul-warm-3
     array-copy-out-warm-3 warm-start-as-weld-requires mul-joint array-copy-out-joint solve-as-revolute-requires staged-joint-requires
     mul-joints array-set-from-joints mul-joint-2 array-copy-out-joint-2 solve-as-spherical-requires staged-joint-requires-2 mul-joints-2
     array-set-from-joints-2 mul-joint-3 array-copy-out-joint-3 solve-as-weld-requires staged-joint-requires-3 mul-joints-3 array-set-from-joints-3
     mul-again-a array-copy-out-again-a store-velocities-requires mul-bodies array-set-from-bodies mul-again-b array-copy-out-again-b
-    store-velocities-requires-2 mul-bodies-2 array-set-from-bodies-2 add-i loop-less loop-again without-identity-requires returns)
+    store-velocities-requires-2 mul-bodies-2 array-set-from-bodies-2 add-k loop-less loop-again without-identity-requires returns)

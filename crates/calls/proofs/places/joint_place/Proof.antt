@@ -1,9 +1,9 @@
 -- `places::joint_place` equals its definition. Assumes nothing.
 use native.Mathlib.Omega.{arith}
 use borrow.Author.Tests.{lt-ltb, le-ltb}
-use Rattle.call_list.specs.Places.{jointPlace}
-use Rattle.call_list.proofs.places.joint_place.Statement.{statement}
-use Rattle.call_list.proofs.places.joint_place.Tie as tie
+use Rattle.calls.specs.Places.{jointPlace}
+use Rattle.calls.proofs.places.joint_place.Statement.{statement}
+use Rattle.calls.proofs.places.joint_place.Tie as tie
 
 returns : tie.Need-returns
 unfolding jointPlace

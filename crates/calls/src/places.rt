@@ -2,7 +2,7 @@
 ghost use mathlib.Core.Path.{_≡_};
 ghost use Prim.Native.Nat.{_<_};
 ghost use lib.ListN.{take};
-ghost use Rattle.call_list.specs.Places as D;
+ghost use Rattle.calls.specs.Places as D;
 use joint::index::indices_of;
 use records::body::BodyState;
 use records::body::IDENTITY_BODY_STATE;
@@ -16,7 +16,7 @@ pub struct Places {
 }
 
 // An index's place among 32 bodies and the identity state after them: that of the identity state for
-// -1, and for an index that no accepted call has.
+// -1, and for an index behind them.
 pub fn body_place(index: i32) -> usize
     ensures { λ r. ⌜ (r < 33) × (r ≡ D.bodyPlace index) ⌝ }
 {
@@ -37,22 +37,41 @@ pub fn places_of(joint: JointSim) -> Places
     }
 }
 
+// A code, and 6 behind the last slot.
+pub fn code_in(slot: u8, code: u8) -> u8
+    ensures { λ r. ⌜ r ≡ D.codeIn slot code ⌝ }
+{
+    if slot < 32 { code } else { 6 }
+}
+
 // Which stage of which kind a call is, in one number: for a warm start that of the joint's case, for a
-// solve three more, and 6 for the empty case.
-pub fn stage_code(joint: JointSim, stage: u8) -> u8
-    ensures { λ r. ⌜ r ≡ D.stageCode (joint .«union_») stage ⌝ }
+// solve three more, and 6 for the empty case and behind the last slot.
+pub fn stage_code(slot: u8, joint: JointSim, stage: u8) -> u8
+    ensures { λ r. ⌜ r ≡ D.stageCode slot (joint .«union_») stage ⌝ }
 {
     let warm = stage == 0;
     let union_ = joint.union_;
     match union_ {
-        JointUnion::Revolute(_) => if warm { 0 } else { 3 },
-        JointUnion::Spherical(_) => if warm { 1 } else { 4 },
-        JointUnion::Weld(_) => if warm { 2 } else { 5 },
+        JointUnion::Revolute(_) => if warm {
+            code_in(slot, 0)
+        } else {
+            code_in(slot, 3)
+        },
+        JointUnion::Spherical(_) => if warm {
+            code_in(slot, 1)
+        } else {
+            code_in(slot, 4)
+        },
+        JointUnion::Weld(_) => if warm {
+            code_in(slot, 2)
+        } else {
+            code_in(slot, 5)
+        },
         JointUnion::Other => 6,
     }
 }
 
-// A slot's place among 32 joints: 0 for a slot that no accepted call has.
+// A slot's place among 32 joints: 0 for one behind them, whose calls work no joint.
 pub fn joint_place(slot: u8) -> usize
     ensures { λ r. ⌜ (r < 32) × (r ≡ D.jointPlace slot) ⌝ }
 {

@@ -6,9 +6,9 @@ use native.Mathlib.Omega.{arith}
 use lib.ListN.{length, take, drop, replicate, length-replicate}
 use borrow.Author.Needs.{needs}
 use Rattle.records.specs.Body.{identityBodyState}
-use Rattle.call_list.proofs.Elements.{fill-more, fill-33}
-use Rattle.call_list.proofs.places.with_identity.Statement.{statement}
-use Rattle.call_list.proofs.places.with_identity.Tie as tie
+use Rattle.calls.proofs.Elements.{fill-more, fill-33}
+use Rattle.calls.proofs.places.with_identity.Statement.{statement}
+use Rattle.calls.proofs.places.with_identity.Tie as tie
 
 abbrev Inv-loop : tie.InvT-loop
 Inv-loop bodies out₀ k₀ out k = (k ≤ 32) × (out ≡ take k bodies ++ drop k out₀)

@@ -3,18 +3,18 @@ use mathlib.Core.Path.{_≡_, ap}
 use mir.Syntax.{w32}
 use mir.Val.{SFits}
 use borrow.Author.Needs.{needs}
-use Rattle.call_list.proofs.Elements.{place-is}
-use Rattle.call_list.proofs.places.places_of.Statement.{statement}
-use Rattle.call_list.proofs.places.places_of.Tie as tie
+use Rattle.calls.proofs.Elements.{place-is}
+use Rattle.calls.proofs.places.places_of.Statement.{statement}
+use Rattle.calls.proofs.places.places_of.Tie as tie
 
 indices-of-requires : tie.Need-indices-of-requires
-indices-of-requires c κs = search needs
+indices-of-requires c κs = tt
 
 body-place-requires : tie.Need-body-place-requires
-body-place-requires c κs = search needs
+body-place-requires c κs = tt
 
 body-place-requires-2 : tie.Need-body-place-requires-2
-body-place-requires-2 c κs = search needs
+body-place-requires-2 c κs = tt
 
 returns : tie.Need-returns
 returns c =

@@ -1,0 +1,359 @@
+-- Laws on single elements of the arrays: signed indices, a body's place, and a turn of the run's loop. Assumes nothing.
+use mathlib.Core.Path.{_≡_, refl, sym, ap, _∙_}
+use mathlib.Core.Logic.{_≢_}
+use mathlib.Core.Bool.{Bool, true, false, cond}
+use mathlib.Core.List.{List, [], _∷_, _++_, map, append-assoc, append-nil}
+use Prim.Native.Nat.{ℕ, zero, suc, _+_, _≤_, _<_, min}
+use native.Mathlib.Nat.{le-of-suc-le-suc}
+use native.Mathlib.Numerals.{add-one}
+use native.Mathlib.Omega.{arith}
+use lib.Dec.{eqb, ltb}
+use lib.Ieee.{Float}
+use lib.IntN.{ℤ, pos, negsuc}
+use lib.ListN.{length, getD, set, take, drop, replicate, length-map, length-set, length-take, List·getD-append, List·getD-eq-default}
+use lib.Seq.{set-getD, set-out, set-at, set-append-left, take-suc, take-all, drop-cons, getD-append-add}
+use mir.Syntax.{w32}
+use mir.Val.{SFits, toZ, ofZ}
+use mir.ValLaws.{toZ-ofZ}
+use borrow.Author.Tests.{eq-eqb, ne-eqb, eqb-true, eqb-false, lt-ltb, ltb-true, ltb-false}
+use Rattle.records.proofs.joint.JointSim as JointField
+use Rattle.records.proofs.body.BodyState as BodyField
+use Rattle.math_functions.specs.declared.types.Vec3.{Vec3}
+use Rattle.records.specs.declared.body.BodyState.{BodyState}
+use Rattle.records.specs.declared.joint.JointUnion.{JointUnion}
+use Rattle.records.specs.declared.joint.JointUnion.the-variants.{Revolute, Spherical, Weld, Other}
+use Rattle.records.specs.declared.joint.JointBase.{JointBase}
+use Rattle.records.specs.declared.joint.JointSim.{JointSim}
+use Rattle.records.specs.Body.{isDynamic, withVelocities, storeVelocities, identityBodyState}
+use Rattle.constraint.specs.declared.velocity.Velocities.{Velocities}
+use Rattle.constraint.specs.Velocity.{velocitiesOf}
+use Rattle.constraint.specs.Answer.{jointSim}
+use Rattle.joint.specs.declared.stage.Staged.{Staged}
+use Rattle.joint.specs.Stage.{staged, warmStartJoint, solveJoint, stageJoint, warmStartAs, solveAs}
+use Rattle.scene.specs.declared.Scene.{Scene}
+use Rattle.records.specs.Joint.{unusedJoint}
+use Rattle.joint.specs.Index.{caseOf, indexA, indexB}
+use Rattle.scene.specs.Scene.{stateAt, store}
+use Rattle.scene.specs.Calls.{call}
+use Rattle.scene.specs.Plain.{storeBoth, step}
+use Rattle.calls.specs.Places.{bodyPlace, codeIn, stageCode, jointPlace, withIdentity}
+
+-- in range the value past the end does not matter
+pub getD-any {ℓ} : {A : Type ℓ} (l : List A) (i : ℕ) (d e : A) → i < length l → getD l i d ≡ getD l i e
+getD-any [] i d e h = absurd (omega arith)
+getD-any (a ∷ l) zero d e h = refl
+getD-any (a ∷ l) (suc i) d e h = getD-any l i d e (le-of-suc-le-suc h)
+
+-- the arrays' lengths, as the ownership of a scene tells them
+pub joints-long : (s : Scene) → length (map (JointField.the-field .into) (s .joints)) ≡ 32 → length (s .joints) ≡ 32
+joints-long s e = sym (length-map (s .joints) (JointField.the-field .into)) ∙ e
+
+pub bodies-long : (s : Scene) → length (map (BodyField.the-field .into) (s .bodies)) ≡ 32 → length (s .bodies) ≡ 32
+bodies-long s e = sym (length-map (s .bodies) (BodyField.the-field .into)) ∙ e
+
+-- ---- signed numbers, which the code has by their bits
+
+pub place-is : (z y : ℤ) (r : ℕ) → SFits w32 z → z ≡ y → r ≡ bodyPlace (toZ w32 (ofZ w32 z)) → r ≡ bodyPlace y
+place-is z y r f e g = g ∙ ap bodyPlace (toZ-ofZ w32 z f ∙ e)
+
+-- ---- places
+
+pub joint-place-in : (slot : ℕ) → slot < 32 → jointPlace slot ≡ slot
+unfolding jointPlace
+joint-place-in slot h = rw (lt-ltb slot 32 h)
+
+last : (us : List BodyState) → length us ≡ 32 → (d : BodyState) → getD (withIdentity us) 32 d ≡ identityBodyState
+unfolding withIdentity
+last us long d =
+    let e : 32 ≡ length us + 0 = omega arith in
+    ap (λ k. getD (us ++ (identityBodyState ∷ [])) k d) e ∙ getD-append-add us (identityBodyState ∷ []) 0 d
+
+inside : (us : List BodyState) (n : ℕ) (d : BodyState) → length us ≡ 32 → n < 32 → getD (withIdentity us) n d ≡ getD us n identityBodyState
+unfolding withIdentity
+inside us n d long h = List·getD-append us (identityBodyState ∷ []) d n (rw long h) ∙ getD-any us n d identityBodyState (rw long h)
+
+-- what stands at an index's place is the state at the index
+pub seen-is : (us : List BodyState) → length us ≡ 32 → (z : ℤ) (d : BodyState) → getD (withIdentity us) (bodyPlace z) d ≡ stateAt us z
+seen-is us long (negsuc n) d = last us long d
+seen-is us long (pos n) d = by (ltb n 32) refl
+  where
+    by : (b : Bool) → ltb n 32 ≡ b → getD (withIdentity us) (cond b n 32) d ≡ getD us n identityBodyState
+    by true e = inside us n d long (ltb-true n 32 e)
+    by false e =
+        let h : 32 ≤ n = ltb-false n 32 e in
+        last us long d ∙ sym (List·getD-eq-default us identityBodyState {n = n} (omega arith))
+
+identity-stays : (v w : Vec3) → storeVelocities identityBodyState v w ≡ identityBodyState
+unfolding storeVelocities isDynamic
+identity-stays v w = refl
+
+-- a store at the identity state's place changes nothing
+stays : (us : List BodyState) → length us ≡ 32 → (y d : BodyState) (v w : Vec3) → y ≡ storeVelocities (getD (withIdentity us) 32 d) v w → set (withIdentity us) 32 y ≡ withIdentity us
+unfolding withIdentity
+stays us long y d v w e =
+    let g : y ≡ identityBodyState = e ∙ ap (λ x. storeVelocities x v w) (last us long d) ∙ identity-stays v w in
+    rw g (set-at us identityBodyState [] identityBodyState 32 long)
+
+stored : (us : List BodyState) (n : ℕ) → length us ≡ 32 → n < 32 → (y d : BodyState) (v w : Vec3) → y ≡ storeVelocities (getD (withIdentity us) n d) v w
+    → set (withIdentity us) n y ≡ withIdentity (store us (pos n) v w)
+unfolding withIdentity store
+stored us n long h y d v w e =
+    let g : y ≡ storeVelocities (getD us n identityBodyState) v w = e ∙ ap (λ x. storeVelocities x v w) (inside us n d long h) in
+    rw g (set-append-left us (identityBodyState ∷ []) n _ (rw long h))
+
+store-out : (us : List BodyState) (n : ℕ) (v w : Vec3) → length us ≡ 32 → 32 ≤ n → store us (pos n) v w ≡ us
+unfolding store
+store-out us n v w long h = set-out us n _ (omega arith)
+
+store-none : (us : List BodyState) (n : ℕ) (v w : Vec3) → store us (negsuc n) v w ≡ us
+unfolding store
+store-none us n v w = refl
+
+-- a store at an index's place is a store at the index
+pub kept-is : (us : List BodyState) → length us ≡ 32 → (z : ℤ) (y d : BodyState) (v w : Vec3) → y ≡ storeVelocities (getD (withIdentity us) (bodyPlace z) d) v w
+    → set (withIdentity us) (bodyPlace z) y ≡ withIdentity (store us z v w)
+kept-is us long (negsuc n) y d v w e = stays us long y d v w e ∙ ap withIdentity (sym (store-none us n v w))
+kept-is us long (pos n) y d v w e = by (ltb n 32) refl e
+  where
+    by : (b : Bool) → ltb n 32 ≡ b → y ≡ storeVelocities (getD (withIdentity us) (cond b n 32) d) v w → set (withIdentity us) (cond b n 32) y ≡ withIdentity (store us (pos n) v w)
+    by true t e = stored us n long (ltb-true n 32 t) y d v w e
+    by false t e = stays us long y d v w e ∙ ap withIdentity (sym (store-out us n v w long (ltb-false n 32 t)))
+
+-- a store keeps the count
+pub store-long : (us : List BodyState) (z : ℤ) (v w : Vec3) → length us ≡ 32 → length (store us z v w) ≡ 32
+unfolding store
+store-long us (pos n) v w h = length-set us n _ ∙ h
+store-long us (negsuc n) v w h = h
+
+-- ---- a turn of the run's loop
+
+-- a scene with other bodies and joints
+abbrev pub remade : Scene → List BodyState → List JointSim → Scene
+remade s bodies joints = record { joints = joints; bodies = bodies; «joint_count» = s .«joint_count»; «body_count» = s .«body_count»; context = s .context }
+
+-- what the loop's match leaves: the joint of the slot as the stage r left it, and the velocities
+pub record Worked (js : List JointSim) (at : ℕ) (d : JointSim) (r : Staged) (next : List JointSim) (v : Velocities) : Type 0 where
+  pub stored : next ≡ set js at (jointSim (getD js at d .base) (r .«union_»))
+  pub moved : v ≡ r .velocities
+
+-- a stage's code is that of no stage behind the last slot
+in-slot : (slot x k : ℕ) → codeIn slot x ≡ k → k < 6 → (ltb slot 32 ≡ true) × (x ≡ k)
+unfolding codeIn
+in-slot slot x k e h = by (ltb slot 32) refl e
+  where
+    by : (b : Bool) → ltb slot 32 ≡ b → cond b x 6 ≡ k → (ltb slot 32 ≡ true) × (x ≡ k)
+    by true f e = (f, e)
+    by false f e = absurd (omega (arith, e))
+
+-- what a stage's code tells: that there is a joint, its case, and whether it is a warm start
+warm-code : (slot : ℕ) (u : JointUnion) (stage k : ℕ) → stageCode slot u stage ≡ k → k < 3 → (ltb slot 32 ≡ true) × (caseOf u ≡ k) × (stage ≡ 0)
+unfolding stageCode
+warm-code slot u stage k e h = by u (eqb stage 0) refl e
+  where
+    warm : (x : ℕ) → eqb stage 0 ≡ true → codeIn slot x ≡ k → (ltb slot 32 ≡ true) × (x ≡ k) × (stage ≡ 0)
+    warm x f e = let g = in-slot slot x k e (omega arith) in (g .0, g .1, eqb-true stage 0 f)
+
+    other : (x : ℕ) → 3 ≤ x → codeIn slot x ≡ k → ⊥
+    other x o e = let g = in-slot slot x k e (omega arith) in omega (arith, g .1)
+
+    by : (u : JointUnion) (b : Bool) → eqb stage 0 ≡ b → stageCode slot u stage ≡ k → (ltb slot 32 ≡ true) × (caseOf u ≡ k) × (stage ≡ 0)
+    by (Revolute j) true f e = warm 0 f (rw f at e)
+    by (Spherical j) true f e = warm 1 f (rw f at e)
+    by (Weld j) true f e = warm 2 f (rw f at e)
+    by (Revolute j) false f e = absurd (other 3 (omega arith) (rw f at e))
+    by (Spherical j) false f e = absurd (other 4 (omega arith) (rw f at e))
+    by (Weld j) false f e = absurd (other 5 (omega arith) (rw f at e))
+    by Other b f e = let g : 6 ≡ k = e in absurd (omega (arith, g))
+
+solve-code : (slot : ℕ) (u : JointUnion) (stage k : ℕ) → stageCode slot u stage ≡ k + 3 → k < 3 → (ltb slot 32 ≡ true) × (caseOf u ≡ k) × (stage ≢ 0)
+unfolding stageCode
+solve-code slot u stage k e h = by u (eqb stage 0) refl e
+  where
+    solve : (x : ℕ) → eqb stage 0 ≡ false → codeIn slot (x + 3) ≡ k + 3 → (ltb slot 32 ≡ true) × (x ≡ k) × (stage ≢ 0)
+    solve x f e = let g = in-slot slot (x + 3) (k + 3) e (omega arith) in (g .0, omega (arith, g .1), eqb-false stage 0 f)
+
+    other : (x : ℕ) → x < 3 → codeIn slot x ≡ k + 3 → ⊥
+    other x o e = let g = in-slot slot x (k + 3) e (omega arith) in omega (arith, g .1)
+
+    by : (u : JointUnion) (b : Bool) → eqb stage 0 ≡ b → stageCode slot u stage ≡ k + 3 → (ltb slot 32 ≡ true) × (caseOf u ≡ k) × (stage ≢ 0)
+    by (Revolute j) true f e = absurd (other 0 (omega arith) (rw f at e))
+    by (Spherical j) true f e = absurd (other 1 (omega arith) (rw f at e))
+    by (Weld j) true f e = absurd (other 2 (omega arith) (rw f at e))
+    by (Revolute j) false f e = solve 0 f (rw f at e)
+    by (Spherical j) false f e = solve 1 f (rw f at e)
+    by (Weld j) false f e = solve 2 f (rw f at e)
+    by Other b f e = let g : 6 ≡ k + 3 = e in absurd (omega (arith, g))
+
+-- the stage of the joint that a call reads; behind the last slot nothing is worked
+abbrev pub stageIn : ℕ → JointUnion → JointBase → Float → Float → BodyState → BodyState → ℕ → Staged
+stageIn slot u base h i a b stage = cond (ltb slot 32) (stageJoint u base h i a b stage) (staged u (velocitiesOf a b))
+
+module _ (js : List JointSim) (at : ℕ) (d : JointSim) (h i : Float) (a b : BodyState) (slot stage c : ℕ) (next : List JointSim) (v : Velocities)
+    (coded : c ≡ stageCode slot (getD js at d .«union_») stage) where
+  abbrev j : JointSim
+  j = getD js at d
+
+  -- the stage of the joint, whichever kind it is
+  abbrev pub its-stage : Staged
+  its-stage = stageIn slot (j .«union_») (j .base) h i a b stage
+
+  abbrev put : JointUnion → List JointSim
+  put u = set js at (jointSim (j .base) u)
+
+  -- where the stage leaves the joint as it was
+  unmoved : (w : Velocities) → staged (j .«union_») w ≡ its-stage → next ≡ js → v ≡ w → Worked js at d its-stage next v
+  unmoved w same n m = record { stored = n ∙ sym (set-getD js at d) ∙ ap (λ x. put (x .«union_»)) same; moved = m ∙ ap (λ x. x .velocities) same }
+
+  -- in the arm of a kind's warm start
+  pub worked-warm : (k : ℕ) → c ≡ k → k < 3 → v ≡ warmStartAs k (j .«union_») (j .base) a b → next ≡ js → Worked js at d its-stage next v
+  unfolding stageJoint warmStartAs
+  worked-warm k f low g n =
+      let of = warm-code slot (j .«union_») stage k (sym coded ∙ f) low in
+      unmoved (warmStartJoint (j .«union_») (j .base) a b) (rw (of .0, eq-eqb stage 0 (of .2))) n (g ∙ rw (eq-eqb (caseOf (j .«union_»)) k (of .1)))
+
+  -- in the arm of a kind's solve
+  pub worked-solve : (k : ℕ) (r : Staged) (left : JointSim) → c ≡ k + 3 → k < 3 → r ≡ solveAs k (j .«union_») (j .base) h i a b (eqb stage 1) → left ≡ jointSim (j .base) (r .«union_»)
+      → next ≡ set js at left
+      → v ≡ r .velocities
+      → Worked js at d its-stage next v
+  unfolding stageJoint solveAs
+  worked-solve k r left f low g keeps n m =
+      let of = solve-code slot (j .«union_») stage k (sym coded ∙ f) low in
+      let same : r ≡ its-stage = g ∙ rw (of .0, eq-eqb (caseOf (j .«union_»)) k (of .1), ne-eqb stage 0 (of .2)) in
+      record { stored = n ∙ ap (set js at) keeps ∙ ap (λ x. put (x .«union_»)) same; moved = m ∙ ap (λ x. x .velocities) same }
+
+  other : (u : JointUnion) → c ≡ stageCode slot u stage → c ≢ 0 → c ≢ 1 → c ≢ 2 → c ≢ 3 → c ≢ 4 → c ≢ 5 → staged u (velocitiesOf a b) ≡ stageIn slot u (j .base) h i a b stage
+  unfolding stageJoint stageCode codeIn warmStartJoint solveJoint
+  other u e n0 n1 n2 n3 n4 n5 = by u (ltb slot 32) (eqb stage 0) refl refl e
+    where
+      by : (u : JointUnion) (s w : Bool) → ltb slot 32 ≡ s → eqb stage 0 ≡ w → c ≡ stageCode slot u stage → staged u (velocitiesOf a b) ≡ stageIn slot u (j .base) h i a b stage
+      by u false w g f e = rw g
+      by (Revolute r) true true g f e = absurd (n0 (rw (g, f) at e))
+      by (Spherical r) true true g f e = absurd (n1 (rw (g, f) at e))
+      by (Weld r) true true g f e = absurd (n2 (rw (g, f) at e))
+      by (Revolute r) true false g f e = absurd (n3 (rw (g, f) at e))
+      by (Spherical r) true false g f e = absurd (n4 (rw (g, f) at e))
+      by (Weld r) true false g f e = absurd (n5 (rw (g, f) at e))
+      by Other true true g f e = rw (g, f)
+      by Other true false g f e = rw (g, f)
+
+  -- in the arm of no kind nothing is worked
+  pub worked-none : c ≢ 0 → c ≢ 1 → c ≢ 2 → c ≢ 3 → c ≢ 4 → c ≢ 5 → next ≡ js → v ≡ velocitiesOf a b → Worked js at d its-stage next v
+  worked-none n0 n1 n2 n3 n4 n5 n m = unmoved _ (other (j .«union_») coded n0 n1 n2 n3 n4 n5) n m
+
+-- a body's own velocities stored leave it as it was
+own-stays : (x : BodyState) → storeVelocities x (x .«linear_velocity») (x .«angular_velocity») ≡ x
+unfolding storeVelocities
+own-stays x = by (isDynamic x)
+  where
+    by : (d : Bool) → cond d (withVelocities x (x .«linear_velocity») (x .«angular_velocity»)) x ≡ x
+    by true = refl
+    by false = refl
+
+-- behind the last slot a call of the plain run changes nothing
+step-none : (s : Scene) (us : List BodyState) (js : List JointSim) (slot stage : ℕ) → length js ≤ slot → step (call slot stage) (remade s us js) ≡ remade s us js
+unfolding step store
+step-none s us js slot stage h = rw (List·getD-eq-default js unusedJoint {n = slot} h) (ap (remade s us) (set-out js slot _ h))
+
+-- what a turn of the loop leaves: bodies `us` behind which the identity state stands, and the scene after the call
+pub record Turned (s : Scene) (js : List JointSim) (us ws : List BodyState) (slot stage at : ℕ) (n : JointSim) : Type 0 where
+  pub left : List BodyState
+  pub holds : ws ≡ withIdentity left
+  pub long : length left ≡ 32
+  pub stepped : remade s left (set js at n) ≡ step (call slot stage) (remade s us js)
+
+-- from what the code's calls gave, a turn is one call of the plain run
+module _ (s : Scene) (js : List JointSim) (us ws : List BodyState) (slot stage at pa pb : ℕ) (d : JointSim) (e na nb : BodyState) (r : Staged)
+    (lb : length us ≡ 32) (lj : length js ≡ 32) (ew : ws ≡ withIdentity us) where
+  abbrev named : JointSim
+  named = getD js at d
+
+  -- behind the last slot
+  idle : ltb slot 32 ≡ false → r ≡ staged (named .«union_») (velocitiesOf (getD ws pa e) (getD ws pb e)) → na ≡ storeVelocities (getD ws pa e) (r .velocities .«v_a») (r .velocities .«w_a»)
+      → nb ≡ storeVelocities (getD (set ws pa na) pb e) (r .velocities .«v_b») (r .velocities .«w_b»)
+      → Turned s js us (set (set ws pa na) pb nb) slot stage at (jointSim (named .base) (r .«union_»))
+  unfolding velocitiesOf
+  idle f er ka kb =
+      let a = getD ws pa e in
+      let b = getD ws pb e in
+      let na-is : na ≡ a = ka ∙ ap (λ x. storeVelocities a (x .velocities .«v_a») (x .velocities .«w_a»)) er ∙ own-stays a in
+      let one : set ws pa na ≡ ws = ap (set ws pa) na-is ∙ set-getD ws pa e in
+      let nb-is : nb ≡ b = kb ∙ ap (λ l. storeVelocities (getD l pb e) (r .velocities .«v_b») (r .velocities .«w_b»)) one ∙ ap (λ x. storeVelocities b (x .velocities .«v_b») (x .velocities .«w_b»)) er ∙ own-stays b in
+      let two : set (set ws pa na) pb nb ≡ ws = ap (λ l. set l pb nb) one ∙ ap (set ws pb) nb-is ∙ set-getD ws pb e in
+      let same : set js at (jointSim (named .base) (r .«union_»)) ≡ js = ap (λ x. set js at (jointSim (named .base) (x .«union_»))) er ∙ set-getD js at d in
+      let out : length js ≤ slot = omega (arith, lj, ltb-false slot 32 f) in
+      record { left = us; holds = two ∙ ew; long = lb; stepped = ap (remade s us) same ∙ sym (step-none s us js slot stage out) }
+
+  -- in a slot
+  worked : ltb slot 32 ≡ true → at ≡ jointPlace slot → pa ≡ bodyPlace (indexA (named .«union_»)) → pb ≡ bodyPlace (indexB (named .«union_»))
+      → r ≡ stageJoint (named .«union_») (named .base) (s .context .h) (s .context .«inv_h») (getD ws pa e) (getD ws pb e) stage
+      → na ≡ storeVelocities (getD ws pa e) (r .velocities .«v_a») (r .velocities .«w_a»)
+      → nb ≡ storeVelocities (getD (set ws pa na) pb e) (r .velocities .«v_b») (r .velocities .«w_b»)
+      → Turned s js us (set (set ws pa na) pb nb) slot stage at (jointSim (named .base) (r .«union_»))
+  unfolding step
+  worked f ha hpa hpb er ka kb =
+      let h = ltb-true slot 32 f in
+      let z = indexA (named .«union_») in
+      let y = indexB (named .«union_») in
+      let v = r .velocities in
+      let q : at ≡ slot = ha ∙ joint-place-in slot h in
+      let one = store us z (v .«v_a») (v .«w_a») in
+      let g : set ws pa na ≡ withIdentity one = rw (ew, hpa) (kept-is us lb z na e (v .«v_a») (v .«w_a») (rw (ew, hpa) at ka)) in
+      let lb' = store-long us z (v .«v_a») (v .«w_a») lb in
+      let two = store one y (v .«v_b») (v .«w_b») in
+      let sa : getD ws pa e ≡ stateAt us z = rw (ew, hpa) (seen-is us lb z e) in
+      let sb : getD ws pb e ≡ stateAt us y = rw (ew, hpb) (seen-is us lb y e) in
+      let same : named ≡ getD js slot unusedJoint = rw q (getD-any js slot d unusedJoint (rw lj h)) in
+      record {
+        left = two;
+        holds = rw (g, hpb) (kept-is one lb' y nb e (v .«v_b») (v .«w_b») (rw (g, hpb) at kb));
+        long = store-long one y (v .«v_b») (v .«w_b») lb';
+        stepped = finish named (getD js slot unusedJoint) same (getD ws pa e) (getD ws pb e) sa sb er q;
+      }
+    where
+      finish : (j k : JointSim) → j ≡ k → (a b : BodyState) → a ≡ stateAt us (indexA (j .«union_»)) → b ≡ stateAt us (indexB (j .«union_»))
+          → r ≡ stageJoint (j .«union_») (j .base) (s .context .h) (s .context .«inv_h») a b stage
+          → at ≡ slot
+          → remade s (storeBoth us (j .«union_») (r .velocities)) (set js at (jointSim (j .base) (r .«union_»)))
+          ≡ (let m = stageJoint (k .«union_») (k .base) (s .context .h) (s .context .«inv_h») (stateAt us (indexA (k .«union_»))) (stateAt us (indexB (k .«union_»))) stage in
+          remade s (storeBoth us (k .«union_») (m .velocities)) (set js slot (jointSim (k .base) (m .«union_»))))
+      finish j k e a b ea eb er q = rw (er, ea, eb, q, e)
+
+  pub turn-is : (v : Velocities) → at ≡ jointPlace slot → pa ≡ bodyPlace (indexA (named .«union_»)) → pb ≡ bodyPlace (indexB (named .«union_»))
+      → r ≡ stageIn slot (named .«union_») (named .base) (s .context .h) (s .context .«inv_h») (getD ws pa e) (getD ws pb e) stage
+      → v ≡ r .velocities
+      → na ≡ storeVelocities (getD ws pa e) (v .«v_a») (v .«w_a»)
+      → nb ≡ storeVelocities (getD (set ws pa na) pb e) (v .«v_b») (v .«w_b»)
+      → Turned s js us (set (set ws pa na) pb nb) slot stage at (jointSim (named .base) (r .«union_»))
+  turn-is v ha hpa hpb er ev ka kb = by (ltb slot 32) refl er
+    where
+      ka' : na ≡ storeVelocities (getD ws pa e) (r .velocities .«v_a») (r .velocities .«w_a»)
+      ka' = ka ∙ ap (λ y. storeVelocities (getD ws pa e) (y .«v_a») (y .«w_a»)) ev
+
+      kb' : nb ≡ storeVelocities (getD (set ws pa na) pb e) (r .velocities .«v_b») (r .velocities .«w_b»)
+      kb' = kb ∙ ap (λ y. storeVelocities (getD (set ws pa na) pb e) (y .«v_b») (y .«w_b»)) ev
+
+      by : (b : Bool) → ltb slot 32 ≡ b
+          → r ≡ cond b (stageJoint (named .«union_») (named .base) (s .context .h) (s .context .«inv_h») (getD ws pa e) (getD ws pb e) stage) (staged (named .«union_») (velocitiesOf (getD ws pa e) (getD ws pb e)))
+          → Turned s js us (set (set ws pa na) pb nb) slot stage at (jointSim (named .base) (r .«union_»))
+      by true f er = worked f ha hpa hpb er ka' kb'
+      by false f er = idle f er ka' kb'
+
+-- ---- filling an array from another
+
+min-low : (k n : ℕ) → k < n → min k n ≡ k
+min-low k n h = omega arith
+
+pub fill-more {ℓ} : {A : Type ℓ} (bs o w : List A) (k : ℕ) (d : A) → w ≡ take k bs ++ drop k o → k < length bs → k < length o → set w k (getD bs k d) ≡ take (k + 1) bs ++ drop (k + 1) o
+fill-more bs o w k d e h g =
+    let n : length (take k bs) ≡ k = length-take k bs ∙ min-low k (length bs) h in
+    rw (e, add-one k, drop-cons o k d g, take-suc bs k d h) (set-at (take k bs) (getD o k d) (drop (suc k) o) (getD bs k d) k n ∙ sym (append-assoc (take k bs) (getD bs k d ∷ []) (drop (suc k) o)))
+
+pub fill-33 : (bs w : List BodyState) (k : ℕ) → length bs ≡ 32 → k ≡ 32 → w ≡ take k bs ++ drop k (replicate 33 identityBodyState) → w ≡ withIdentity bs
+unfolding withIdentity
+fill-33 bs w k long e q =
+    let n : length bs ≤ 32 = omega arith in
+    q ∙ rw e (ap (λ l. l ++ (identityBodyState ∷ [])) (take-all 32 bs n))
+
+pub fill-32 : (bs w : List BodyState) (k : ℕ) → k ≡ 32 → w ≡ take k bs ++ drop k (replicate 32 identityBodyState) → w ≡ take 32 bs
+fill-32 bs w k e q = q ∙ rw e (append-nil (take 32 bs))

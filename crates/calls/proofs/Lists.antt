@@ -1,0 +1,68 @@
+-- Laws on the calls of a list, as a loop goes through its bytes. Assumes nothing.
+use mathlib.Core.Path.{_≡_, refl, ap, _∙_}
+use mathlib.Core.List.{List, [], _∷_}
+use Prim.Native.Nat.{ℕ, suc, _+_, _*_, _≤_, _<_}
+use native.Mathlib.Numerals.{add-one, add-two}
+use native.Mathlib.Omega.{arith}
+use lib.ListN.{length, getD, set, take, drop, length-drop, length-set}
+use lib.Seq.{drop-cons, take-at}
+use Rattle.records.specs.declared.body.BodyState.{BodyState}
+use Rattle.records.specs.declared.joint.JointSim.{JointSim}
+use Rattle.records.specs.Body.{identityBodyState}
+use Rattle.scene.specs.declared.Scene.{Scene}
+use Rattle.scene.specs.Calls.{call, calls}
+use Rattle.scene.specs.Plain.{runCalls}
+use Rattle.calls.specs.Places.{withIdentity}
+use Rattle.calls.proofs.Elements.{remade, Turned}
+
+-- ---- the call at a byte
+
+short-calls : (m : List ℕ) → length m ≤ 1 → calls m ≡ []
+short-calls [] h = refl
+short-calls (x ∷ []) h = refl
+short-calls (x ∷ y ∷ m) h = absurd (omega arith)
+
+module _ (l : List ℕ) (i : ℕ) where
+  pub calls-here : i + 1 < length l → calls (drop i l) ≡ call (getD l i 0) (getD l (i + 1) 0) ∷ calls (drop (i + 2) l)
+  calls-here h =
+      let a : i < length l = omega arith in
+      let b : suc i < length l = omega arith in
+      rw (add-one i, add-two i, drop-cons l i 0 a, drop-cons l (suc i) 0 b)
+
+  -- a last byte by itself is no call
+  pub calls-end : length l ≤ i + 1 → calls (drop i l) ≡ []
+  calls-end h = short-calls (drop i l) (rw (length-drop i l) (omega arith))
+
+-- ---- the run's loop
+
+-- the loop's state: `us` and `js` after the first `k` calls
+pub record Midst (s : Scene) (l : List ℕ) (js : List JointSim) (bs : List BodyState) (k : ℕ) : Type 0 where
+  pub us : List BodyState
+  pub holds : bs ≡ withIdentity us
+  pub long-bodies : length us ≡ 32
+  pub long-joints : length js ≡ 32
+  pub made : runCalls (calls (drop (2 * k) l)) (remade s us js) ≡ runCalls (calls l) s
+
+pub midst-start : (s : Scene) (l : List ℕ) (bs : List BodyState) → length (s .bodies) ≡ 32 → length (s .joints) ≡ 32 → bs ≡ withIdentity (s .bodies) → Midst s l (s .joints) bs 0
+midst-start s l bs b j e = record { us = s .bodies; holds = e; long-bodies = b; long-joints = j; made = refl }
+
+module _ (s : Scene) (l : List ℕ) (js : List JointSim) (bs : List BodyState) (k : ℕ) (w : Midst s l js bs k) where
+  pub midst-more : (ws : List BodyState) (at : ℕ) (n : JointSim) (next : List JointSim) → 2 * k + 1 < length l
+      → Turned s js (w .us) ws (getD l (2 * k) 0) (getD l (2 * k + 1) 0) at n
+      → next ≡ set js at n
+      → Midst s l next ws (k + 1)
+  midst-more ws at n next h t e =
+      let twice : 2 * (k + 1) ≡ 2 * k + 2 = omega arith in
+      record {
+        us = t .left;
+        holds = t .holds;
+        long-bodies = t .long;
+        long-joints = ap length e ∙ length-set js at n ∙ w .long-joints;
+        made = rw twice (ap (runCalls (calls (drop (2 * k + 2) l))) (ap (remade s (t .left)) e ∙ t .stepped) ∙ (rw (calls-here l (2 * k) h) at (w .made)));
+      }
+
+  pub midst-done : (are : List BodyState) → length l ≤ 2 * k + 1 → are ≡ take 32 bs → remade s are js ≡ runCalls (calls l) s
+  unfolding withIdentity
+  midst-done are h e =
+      let same : are ≡ w .us = e ∙ rw (w .holds) (take-at (w .us) (identityBodyState ∷ []) 32 (w .long-bodies)) in
+      ap (λ x. remade s x js) same ∙ (rw (calls-end l (2 * k) h) at (w .made))
