@@ -66,8 +66,8 @@ pub fn solve_as_revolute(
 ) -> Staged
     ensures { λ r. ⌜ r ≡ D.solveAs 0 (joint .«union_») (joint .base) h «inv_h» «state_a» «state_b» «use_bias» ⌝ }
 {
-    let u = joint.union_;
-    let JointUnion::Revolute(j) = u else {
+    let mut u = joint.union_;
+    let JointUnion::Revolute(mut j) = u else {
         let velocities = velocities_of(state_a, state_b);
         return Staged {
             union_: u,
@@ -75,10 +75,11 @@ pub fn solve_as_revolute(
         };
     };
     let s = solve_revolute(joint.base, j, h, inv_h, state_a, state_b, use_bias);
-    let left = s.joint;
+    j = s.joint;
     let velocities = s.velocities;
+    u = JointUnion::Revolute(j);
     Staged {
-        union_: JointUnion::Revolute(left),
+        union_: u,
         velocities,
     }
 }
@@ -93,8 +94,8 @@ pub fn solve_as_spherical(
 ) -> Staged
     ensures { λ r. ⌜ r ≡ D.solveAs 1 (joint .«union_») (joint .base) h «inv_h» «state_a» «state_b» «use_bias» ⌝ }
 {
-    let u = joint.union_;
-    let JointUnion::Spherical(j) = u else {
+    let mut u = joint.union_;
+    let JointUnion::Spherical(mut j) = u else {
         let velocities = velocities_of(state_a, state_b);
         return Staged {
             union_: u,
@@ -102,10 +103,11 @@ pub fn solve_as_spherical(
         };
     };
     let s = solve_spherical(joint.base, j, h, inv_h, state_a, state_b, use_bias);
-    let left = s.joint;
+    j = s.joint;
     let velocities = s.velocities;
+    u = JointUnion::Spherical(j);
     Staged {
-        union_: JointUnion::Spherical(left),
+        union_: u,
         velocities,
     }
 }
@@ -120,8 +122,8 @@ pub fn solve_as_weld(
 ) -> Staged
     ensures { λ r. ⌜ r ≡ D.solveAs 2 (joint .«union_») (joint .base) h «inv_h» «state_a» «state_b» «use_bias» ⌝ }
 {
-    let u = joint.union_;
-    let JointUnion::Weld(j) = u else {
+    let mut u = joint.union_;
+    let JointUnion::Weld(mut j) = u else {
         let velocities = velocities_of(state_a, state_b);
         return Staged {
             union_: u,
@@ -129,10 +131,11 @@ pub fn solve_as_weld(
         };
     };
     let s = solve_weld(joint.base, j, state_a, state_b, use_bias);
-    let left = s.joint;
+    j = s.joint;
     let velocities = s.velocities;
+    u = JointUnion::Weld(j);
     Staged {
-        union_: JointUnion::Weld(left),
+        union_: u,
         velocities,
     }
 }

@@ -1,6 +1,8 @@
 // The weld joint: a rigid connection (optionally softened by linear/angular springs) that locks the
 // relative position and orientation of two frames. Its three stages, over a joint of any kind.
 ghost use mathlib.Core.Path.{_≡_};
+ghost use Rattle.constraint.specs.Answer.{jointSim};
+ghost use Rattle.records.specs.declared.joint.JointUnion.the-variants.{Weld};
 ghost use Rattle.weld.specs.Weld as D;
 use crate::stages::prepare_weld;
 use crate::stages::solve_weld;
@@ -12,16 +14,28 @@ use constraint::answer::WarmStarted;
 use constraint::velocity::velocities_of;
 use records::body::BodyRecord;
 use records::body::BodyState;
+use records::joint::JointBase;
 use records::joint::JointSim;
 use records::joint::JointUnion;
+use records::joint::WeldJoint;
 use solver::StepContext;
 
 pub mod rows;
 pub mod stages;
 
+// A joint of this kind.
+fn weld_sim(base: JointBase, joint: WeldJoint) -> JointSim
+    ensures { λ r. ⌜ r ≡ jointSim base (Weld joint) ⌝ }
+{
+    JointSim {
+        base,
+        union_: JointUnion::Weld(joint),
+    }
+}
+
 // Prepare; a joint that is no weld joint is refused.
 pub fn prepare_weld_joint(
-    joint: JointSim,
+    mut joint: JointSim,
     context: StepContext,
     body_a: BodyRecord,
     body_b: BodyRecord,
@@ -44,15 +58,11 @@ pub fn prepare_weld_joint(
         body_a,
         body_b,
     );
-    let base = p.base;
-    let weld = p.joint;
+    joint = weld_sim(p.base, p.joint);
     Prepared {
         number: 0,
         place: 0,
-        joint: JointSim {
-            base,
-            union_: JointUnion::Weld(weld),
-        },
+        joint,
     }
 }
 
@@ -80,7 +90,7 @@ pub fn warm_start_weld_joint(joint: JointSim, state_a: BodyState, state_b: BodyS
 
 // Solve; a joint that is no weld joint is refused. `context` is unused, as in the Rust.
 pub fn solve_weld_joint(
-    joint: JointSim,
+    mut joint: JointSim,
     context: StepContext,
     state_a: BodyState,
     state_b: BodyState,
@@ -97,17 +107,13 @@ pub fn solve_weld_joint(
             velocities: velocities_of(state_a, state_b),
         };
     };
-    let base = joint.base;
-    let s = solve_weld(base, k, state_a, state_b, use_bias);
-    let weld = s.joint;
+    let s = solve_weld(joint.base, k, state_a, state_b, use_bias);
     let velocities = s.velocities;
+    joint = weld_sim(joint.base, s.joint);
     Solved {
         number: 0,
         place: 0,
-        joint: JointSim {
-            base,
-            union_: JointUnion::Weld(weld),
-        },
+        joint,
         velocities,
     }
 }

@@ -50,22 +50,21 @@ pub fn row_spring(hertz: f32, damping_ratio: f32, h: f32, constraint_softness: S
 }
 
 // The impulses stay only for a warm start.
-pub fn keep_impulses(joint: WeldJoint, enable_warm_starting: bool) -> WeldJoint
+pub fn keep_impulses(mut joint: WeldJoint, enable_warm_starting: bool) -> WeldJoint
     ensures { λ r. ⌜ r ≡ D.keepImpulses joint «enable_warm_starting» ⌝ }
 {
     if !enable_warm_starting {
         let zero = VEC3_ZERO;
-        let mut out = joint;
-        out.linear_impulse = zero;
-        out.angular_impulse = zero;
-        return out;
+        joint.linear_impulse = zero;
+        joint.angular_impulse = zero;
+        return joint;
     }
     joint
 }
 
 pub fn prepare_weld(
-    base: JointBase,
-    joint: WeldJoint,
+    mut base: JointBase,
+    mut joint: WeldJoint,
     h: f32,
     enable_warm_starting: bool,
     body_a: BodyRecord,
@@ -76,24 +75,22 @@ pub fn prepare_weld(
     let softness = base.constraint_softness;
     let inv_inertia_sum = add_mm(body_a.inv_inertia_world, body_b.inv_inertia_world);
 
-    let mut out = joint;
-    out.index_a = awake_index(body_a);
-    out.index_b = awake_index(body_b);
-    out.frame_a = prepare_frame(body_a, base.local_frame_a);
-    out.frame_b = prepare_frame(body_b, base.local_frame_b);
-    out.delta_center = sub_pos(body_b.center, body_a.center);
-    out.angular_mass = invert_matrix(inv_inertia_sum);
-    out.linear_spring = row_spring(joint.linear_hertz, joint.linear_damping_ratio, h, softness);
-    out.angular_spring = row_spring(
+    joint.index_a = awake_index(body_a);
+    joint.index_b = awake_index(body_b);
+    joint.frame_a = prepare_frame(body_a, base.local_frame_a);
+    joint.frame_b = prepare_frame(body_b, base.local_frame_b);
+    joint.delta_center = sub_pos(body_b.center, body_a.center);
+    joint.angular_mass = invert_matrix(inv_inertia_sum);
+    joint.linear_spring = row_spring(joint.linear_hertz, joint.linear_damping_ratio, h, softness);
+    joint.angular_spring = row_spring(
         joint.angular_hertz,
         joint.angular_damping_ratio,
         h,
         softness,
     );
-    WeldPrepared {
-        base: prepare_base(base, body_a, body_b),
-        joint: keep_impulses(out, enable_warm_starting),
-    }
+    base = prepare_base(base, body_a, body_b);
+    joint = keep_impulses(joint, enable_warm_starting);
+    WeldPrepared { base, joint }
 }
 
 pub fn warm_start_weld(
@@ -170,7 +167,7 @@ pub fn solve_point(
 
 pub fn solve_weld(
     base: JointBase,
-    joint: WeldJoint,
+    mut joint: WeldJoint,
     state_a: BodyState,
     state_b: BodyState,
     use_bias: bool,
@@ -185,11 +182,7 @@ pub fn solve_weld(
     let linear_impulse = point.impulse;
     let angular_impulse = angular.impulse;
     let velocities = point.velocities;
-    let mut out = joint;
-    out.linear_impulse = linear_impulse;
-    out.angular_impulse = angular_impulse;
-    WeldSolved {
-        joint: out,
-        velocities,
-    }
+    joint.linear_impulse = linear_impulse;
+    joint.angular_impulse = angular_impulse;
+    WeldSolved { joint, velocities }
 }
