@@ -1,6 +1,8 @@
 // The revolute joint: a hinge, which lets two bodies turn about one axis, with a spring, a motor and
 // limits. Its three stages, over a joint of any kind.
 ghost use mathlib.Core.Path.{_≡_};
+ghost use Rattle.constraint.specs.Answer.{jointSim};
+ghost use Rattle.records.specs.declared.joint.JointUnion.the-variants.{Revolute};
 ghost use Rattle.revolute.specs.Revolute as D;
 use crate::stages::prepare_revolute;
 use crate::stages::solve_revolute;
@@ -12,16 +14,28 @@ use constraint::answer::WarmStarted;
 use constraint::velocity::velocities_of;
 use records::body::BodyRecord;
 use records::body::BodyState;
+use records::joint::JointBase;
 use records::joint::JointSim;
 use records::joint::JointUnion;
+use records::joint::RevoluteJoint;
 use solver::StepContext;
 
 pub mod rows;
 pub mod stages;
 
+// A joint of this kind.
+fn revolute_sim(base: JointBase, joint: RevoluteJoint) -> JointSim
+    ensures { λ r. ⌜ r ≡ jointSim base (Revolute joint) ⌝ }
+{
+    JointSim {
+        base,
+        union_: JointUnion::Revolute(joint),
+    }
+}
+
 // Prepare; a joint that is no revolute joint is refused.
 pub fn prepare_revolute_joint(
-    joint: JointSim,
+    mut joint: JointSim,
     context: StepContext,
     body_a: BodyRecord,
     body_b: BodyRecord,
@@ -36,17 +50,19 @@ pub fn prepare_revolute_joint(
             joint,
         };
     };
-    let warm = context.enable_warm_starting;
-    let p = prepare_revolute(joint.base, k, context.h, warm, body_a, body_b);
-    let base = p.base;
-    let revolute = p.joint;
+    let p = prepare_revolute(
+        joint.base,
+        k,
+        context.h,
+        context.enable_warm_starting,
+        body_a,
+        body_b,
+    );
+    joint = revolute_sim(p.base, p.joint);
     Prepared {
         number: 0,
         place: 0,
-        joint: JointSim {
-            base,
-            union_: JointUnion::Revolute(revolute),
-        },
+        joint,
     }
 }
 
@@ -78,7 +94,7 @@ pub fn warm_start_revolute_joint(
 
 // Solve; a joint that is no revolute joint is refused.
 pub fn solve_revolute_joint(
-    joint: JointSim,
+    mut joint: JointSim,
     context: StepContext,
     state_a: BodyState,
     state_b: BodyState,
@@ -95,19 +111,21 @@ pub fn solve_revolute_joint(
             velocities: velocities_of(state_a, state_b),
         };
     };
-    let base = joint.base;
-    let h = context.h;
-    let inv_h = context.inv_h;
-    let s = solve_revolute(base, k, h, inv_h, state_a, state_b, use_bias);
-    let revolute = s.joint;
+    let s = solve_revolute(
+        joint.base,
+        k,
+        context.h,
+        context.inv_h,
+        state_a,
+        state_b,
+        use_bias,
+    );
     let velocities = s.velocities;
+    joint = revolute_sim(joint.base, s.joint);
     Solved {
         number: 0,
         place: 0,
-        joint: JointSim {
-            base,
-            union_: JointUnion::Revolute(revolute),
-        },
+        joint,
         velocities,
     }
 }

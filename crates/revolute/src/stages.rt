@@ -64,7 +64,7 @@ pub struct RevoluteSolved {
 
 // The joint with other impulses and other perpendicular axes.
 pub fn with_impulses(
-    joint: RevoluteJoint,
+    mut joint: RevoluteJoint,
     linear_impulse: Vec3,
     perp_impulse: Vec2,
     spring_impulse: f32,
@@ -76,41 +76,39 @@ pub fn with_impulses(
 ) -> RevoluteJoint
     ensures { λ r. ⌜ r ≡ D.withImpulses joint «linear_impulse» «perp_impulse» «spring_impulse» «motor_impulse» «lower_impulse» «upper_impulse» «perp_axis_x» «perp_axis_y» ⌝ }
 {
-    let mut out = joint;
-    out.linear_impulse = linear_impulse;
-    out.perp_impulse = perp_impulse;
-    out.spring_impulse = spring_impulse;
-    out.motor_impulse = motor_impulse;
-    out.lower_impulse = lower_impulse;
-    out.upper_impulse = upper_impulse;
-    out.perp_axis_x = perp_axis_x;
-    out.perp_axis_y = perp_axis_y;
-    out
+    joint.linear_impulse = linear_impulse;
+    joint.perp_impulse = perp_impulse;
+    joint.spring_impulse = spring_impulse;
+    joint.motor_impulse = motor_impulse;
+    joint.lower_impulse = lower_impulse;
+    joint.upper_impulse = upper_impulse;
+    joint.perp_axis_x = perp_axis_x;
+    joint.perp_axis_y = perp_axis_y;
+    joint
 }
 
 // The impulses stay only for a warm start.
-pub fn keep_impulses(joint: RevoluteJoint, enable_warm_starting: bool) -> RevoluteJoint
+pub fn keep_impulses(mut joint: RevoluteJoint, enable_warm_starting: bool) -> RevoluteJoint
     ensures { λ r. ⌜ r ≡ D.keepImpulses joint «enable_warm_starting» ⌝ }
 {
     if !enable_warm_starting {
-        let mut out = joint;
         let linear_impulse = VEC3_ZERO;
         let perp_impulse = VEC2_ZERO;
-        out.linear_impulse = linear_impulse;
-        out.perp_impulse = perp_impulse;
-        out.motor_impulse = 0.0;
-        out.spring_impulse = 0.0;
-        out.lower_impulse = 0.0;
-        out.upper_impulse = 0.0;
-        return out;
+        joint.linear_impulse = linear_impulse;
+        joint.perp_impulse = perp_impulse;
+        joint.motor_impulse = 0.0;
+        joint.spring_impulse = 0.0;
+        joint.lower_impulse = 0.0;
+        joint.upper_impulse = 0.0;
+        return joint;
     }
     joint
 }
 
 // The masses, the frames, the rotation axis and the perpendicular axes at the start of a step.
 pub fn prepare_revolute(
-    base: JointBase,
-    joint: RevoluteJoint,
+    mut base: JointBase,
+    mut joint: RevoluteJoint,
     h: f32,
     enable_warm_starting: bool,
     body_a: BodyRecord,
@@ -125,21 +123,20 @@ pub fn prepare_revolute(
     // Rotation axis is the z-axis of body A.
     let rotation_axis_z = rotate_vector(frame_a.q, VEC3_AXIS_Z);
     let rel_q = inv_mul_quat(frame_a.q, frame_b.q);
-    let mut out = joint;
-    out.index_a = awake_index(body_a);
-    out.index_b = awake_index(body_b);
-    out.frame_a = frame_a;
-    out.frame_b = frame_b;
-    out.delta_center = sub_pos(body_b.center, body_a.center);
-    out.axial_mass = axial_mass(inv_inertia_sum, rotation_axis_z);
-    out.rotation_axis_z = rotation_axis_z;
+    joint.index_a = awake_index(body_a);
+    joint.index_b = awake_index(body_b);
+    joint.frame_a = frame_a;
+    joint.frame_b = frame_b;
+    joint.delta_center = sub_pos(body_b.center, body_a.center);
+    joint.axial_mass = axial_mass(inv_inertia_sum, rotation_axis_z);
+    joint.rotation_axis_z = rotation_axis_z;
 
     // These are needed for warm starting
-    out.perp_axis_x = perp_axis(frame_a.q, rel_q, VEC3_AXIS_X);
-    out.perp_axis_y = perp_axis(frame_a.q, rel_q, VEC3_AXIS_Y);
-    out.spring_softness = make_soft(joint.hertz, joint.damping_ratio, h);
-    let base = prepare_base(base, body_a, body_b);
-    let joint = keep_impulses(out, enable_warm_starting);
+    joint.perp_axis_x = perp_axis(frame_a.q, rel_q, VEC3_AXIS_X);
+    joint.perp_axis_y = perp_axis(frame_a.q, rel_q, VEC3_AXIS_Y);
+    joint.spring_softness = make_soft(joint.hertz, joint.damping_ratio, h);
+    base = prepare_base(base, body_a, body_b);
+    joint = keep_impulses(joint, enable_warm_starting);
     RevolutePrepared { base, joint }
 }
 
@@ -330,7 +327,7 @@ pub fn solve_point(
 // The rows in order, each on the velocities that the row before it left.
 pub fn solve_revolute(
     base: JointBase,
-    joint: RevoluteJoint,
+    mut joint: RevoluteJoint,
     h: f32,
     inv_h: f32,
     state_a: BodyState,
@@ -340,19 +337,17 @@ pub fn solve_revolute(
     ensures { λ r. ⌜ r ≡ D.solveRevolute base joint h «inv_h» «state_a» «state_b» «use_bias» ⌝ }
 {
     let fixed = base.fixed_rotation;
-    let softness = base.constraint_softness;
+    let soft = base.constraint_softness;
     let m = inv_masses_of(base);
     let v = velocities_of(state_a, state_b);
     let turn = joint_rotation(joint, state_a, state_b);
     let spring = solve_spring(fixed, joint, turn.rel_q, m, v);
     let motor = solve_motor(fixed, joint, h, m, spring.velocities);
     let v = motor.velocities;
-    let limits = solve_limits(fixed, softness, joint, turn.rel_q, inv_h, use_bias, m, v);
-    let v = limits.velocities;
-    let perp = solve_perp(fixed, softness, joint, turn, use_bias, m, v);
-    let v = perp.velocities;
-    let point = solve_point(softness, joint, state_a, state_b, use_bias, m, v);
-    let joint = with_impulses(
+    let limits = solve_limits(fixed, soft, joint, turn.rel_q, inv_h, use_bias, m, v);
+    let perp = solve_perp(fixed, soft, joint, turn, use_bias, m, limits.velocities);
+    let point = solve_point(soft, joint, state_a, state_b, use_bias, m, perp.velocities);
+    joint = with_impulses(
         joint,
         point.impulse,
         perp.perp_impulse,

@@ -13,7 +13,7 @@ returns c =
 
 returns-2 : tie.Need-returns-2
 unfolding prepareRevoluteJoint prepareRevoluteUnion
-returns-2 c = rw (c .before .before .before .before .u .given .1, ← (c .before .before .prepare-revolute .ensures))
+returns-2 c = rw (c .before .before .before .u .given .1, ← (c .before .prepare-revolute .ensures), ← (c .revolute-sim .ensures))
 
 pub prepare-revolute-joint-spec : {M : Type 1} → statement M
-prepare-revolute-joint-spec = tie.close (tie.spec (λ c. search needs) returns (λ c κs. tt) returns-2)
+prepare-revolute-joint-spec = tie.close (tie.spec (λ c. search needs) returns (λ c κs. tt) (λ c κs. tt) returns-2)
