@@ -35,7 +35,7 @@ fn spherical_sim(base: JointBase, joint: SphericalJoint) -> JointSim
 }
 
 pub fn prepare_spherical_joint(
-    joint: JointSim,
+    mut joint: JointSim,
     context: StepContext,
     body_a: BodyRecord,
     body_b: BodyRecord,
@@ -50,12 +50,19 @@ pub fn prepare_spherical_joint(
             joint,
         };
     };
-    let warm = context.enable_warm_starting;
-    let next = prepare_spherical(joint.base, k, context.h, warm, body_a, body_b);
+    let next = prepare_spherical(
+        joint.base,
+        k,
+        context.h,
+        context.enable_warm_starting,
+        body_a,
+        body_b,
+    );
+    joint = spherical_sim(next.base, next.joint);
     Prepared {
         number: 0,
         place: 0,
-        joint: spherical_sim(next.base, next.joint),
+        joint,
     }
 }
 
@@ -87,7 +94,7 @@ pub fn warm_start_spherical_joint(
 }
 
 pub fn solve_spherical_joint(
-    joint: JointSim,
+    mut joint: JointSim,
     context: StepContext,
     state_a: BodyState,
     state_b: BodyState,
@@ -115,10 +122,11 @@ pub fn solve_spherical_joint(
         use_bias,
     );
     let velocities = next.velocities;
+    joint = spherical_sim(joint.base, next.joint);
     Solved {
         number: 0,
         place: 0,
-        joint: spherical_sim(joint.base, next.joint),
+        joint,
         velocities,
     }
 }

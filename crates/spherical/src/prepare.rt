@@ -106,26 +106,25 @@ pub fn prepare_rotation_mass(fixed_rotation: bool, inv_inertia_sum: Matrix3) -> 
 }
 
 // The joint with its impulses, which are cleared if warm starting is off.
-pub fn prepare_impulses(joint: SphericalJoint, enable_warm_starting: bool) -> SphericalJoint
+pub fn prepare_impulses(mut joint: SphericalJoint, enable_warm_starting: bool) -> SphericalJoint
     ensures { λ r. ⌜ r ≡ D.prepareImpulses joint «enable_warm_starting» ⌝ }
 {
     if !enable_warm_starting {
-        let mut out = joint;
         let zero = VEC3_ZERO;
-        out.linear_impulse = zero;
-        out.motor_impulse = zero;
-        out.spring_impulse = zero;
-        out.swing_impulse = 0.0;
-        out.lower_twist_impulse = 0.0;
-        out.upper_twist_impulse = 0.0;
-        return out;
+        joint.linear_impulse = zero;
+        joint.motor_impulse = zero;
+        joint.spring_impulse = zero;
+        joint.swing_impulse = 0.0;
+        joint.lower_twist_impulse = 0.0;
+        joint.upper_twist_impulse = 0.0;
+        return joint;
     }
     joint
 }
 
 pub fn prepare_spherical(
-    base: JointBase,
-    joint: SphericalJoint,
+    mut base: JointBase,
+    mut joint: SphericalJoint,
     h: f32,
     enable_warm_starting: bool,
     body_a: BodyRecord,
@@ -133,28 +132,27 @@ pub fn prepare_spherical(
 ) -> SphericalPrepared
     ensures { λ r. ⌜ r ≡ D.prepareSpherical base joint h «enable_warm_starting» «body_a» «body_b» ⌝ }
 {
-    let next = prepare_base(base, body_a, body_b);
-    let sum = add_mm(next.inv_i_a, next.inv_i_b);
     let frame_a = prepare_frame(body_a, base.local_frame_a);
     let frame_b = prepare_frame(body_b, base.local_frame_b);
+    base = prepare_base(base, body_a, body_b);
+    let sum = add_mm(base.inv_i_a, base.inv_i_b);
     let cone_axis = rotate_vector(frame_a.q, VEC3_AXIS_Z);
     let twist_axis = rotate_vector(frame_b.q, VEC3_AXIS_Z);
     let swing = prepare_swing(joint, sum, cone_axis, twist_axis);
     let twist = prepare_twist(joint, sum, frame_a.q, frame_b.q, cone_axis, twist_axis);
     let swing_axis = swing.axis;
     let twist_jacobian = twist.axis;
-    let mut out = joint;
-    out.index_a = awake_index(body_a);
-    out.index_b = awake_index(body_b);
-    out.frame_a = frame_a;
-    out.frame_b = frame_b;
-    out.delta_center = sub_pos(body_b.center, body_a.center);
-    out.swing_axis = swing_axis;
-    out.swing_mass = swing.mass;
-    out.twist_jacobian = twist_jacobian;
-    out.twist_mass = twist.mass;
-    out.rotation_mass = prepare_rotation_mass(next.fixed_rotation, sum);
-    out.spring_softness = make_soft(joint.hertz, joint.damping_ratio, h);
-    let joint = prepare_impulses(out, enable_warm_starting);
-    SphericalPrepared { base: next, joint }
+    joint.index_a = awake_index(body_a);
+    joint.index_b = awake_index(body_b);
+    joint.frame_a = frame_a;
+    joint.frame_b = frame_b;
+    joint.delta_center = sub_pos(body_b.center, body_a.center);
+    joint.swing_axis = swing_axis;
+    joint.swing_mass = swing.mass;
+    joint.twist_jacobian = twist_jacobian;
+    joint.twist_mass = twist.mass;
+    joint.rotation_mass = prepare_rotation_mass(base.fixed_rotation, sum);
+    joint.spring_softness = make_soft(joint.hertz, joint.damping_ratio, h);
+    joint = prepare_impulses(joint, enable_warm_starting);
+    SphericalPrepared { base, joint }
 }

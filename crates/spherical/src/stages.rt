@@ -193,7 +193,7 @@ fn solve_point(
 
 pub fn solve_spherical(
     base: JointBase,
-    joint: SphericalJoint,
+    mut joint: SphericalJoint,
     h: f32,
     inv_h: f32,
     state_a: BodyState,
@@ -204,9 +204,12 @@ pub fn solve_spherical(
 {
     let m = inv_masses_of(base);
     let v = velocities_of(state_a, state_b);
-    let dq_a = state_a.delta_rotation;
-    let dq_b = state_b.delta_rotation;
-    let rotation = relative_rotation(dq_a, joint.frame_a.q, dq_b, joint.frame_b.q);
+    let rotation = relative_rotation(
+        state_a.delta_rotation,
+        joint.frame_a.q,
+        state_b.delta_rotation,
+        joint.frame_b.q,
+    );
     let rel_q = rotation.rel_q;
     let spring = solve_spring(base, joint, rotation, m, v);
     let motor = solve_motor(base, joint, h, m, spring.velocities);
@@ -218,15 +221,11 @@ pub fn solve_spherical(
     let spring_impulse = spring.impulse;
     let motor_impulse = motor.impulse;
     let velocities = point.velocities;
-    let mut out = joint;
-    out.linear_impulse = linear_impulse;
-    out.spring_impulse = spring_impulse;
-    out.motor_impulse = motor_impulse;
-    out.lower_twist_impulse = twist.lower_impulse;
-    out.upper_twist_impulse = twist.upper_impulse;
-    out.swing_impulse = cone.impulse;
-    SphericalSolved {
-        joint: out,
-        velocities,
-    }
+    joint.linear_impulse = linear_impulse;
+    joint.spring_impulse = spring_impulse;
+    joint.motor_impulse = motor_impulse;
+    joint.lower_twist_impulse = twist.lower_impulse;
+    joint.upper_twist_impulse = twist.upper_impulse;
+    joint.swing_impulse = cone.impulse;
+    SphericalSolved { joint, velocities }
 }
