@@ -8,9 +8,11 @@ use crate::types::Matrix3;
 use crate::types::VEC3_ZERO;
 use crate::types::Vec2;
 use crate::types::Vec3;
+use crate::vector::add;
 use crate::vector::cross;
 use crate::vector::dot;
 use crate::vector::mul_sv;
+use crate::vector::neg;
 
 // A 2x2 matrix, stored as columns.
 pub struct Mat2 {
@@ -41,21 +43,9 @@ pub fn negate_mat3(a: Matrix3) -> Matrix3
     ensures { λ r. ⌜ r ≡ D.negateMat3 a ⌝ }
 {
     Matrix3 {
-        cx: Vec3 {
-            x: -a.cx.x,
-            y: -a.cx.y,
-            z: -a.cx.z,
-        },
-        cy: Vec3 {
-            x: -a.cy.x,
-            y: -a.cy.y,
-            z: -a.cy.z,
-        },
-        cz: Vec3 {
-            x: -a.cz.x,
-            y: -a.cz.y,
-            z: -a.cz.z,
-        },
+        cx: neg(a.cx),
+        cy: neg(a.cy),
+        cz: neg(a.cz),
     }
 }
 
@@ -64,21 +54,9 @@ pub fn add_mm(a: Matrix3, b: Matrix3) -> Matrix3
     ensures { λ r. ⌜ r ≡ D.addMm a b ⌝ }
 {
     Matrix3 {
-        cx: Vec3 {
-            x: a.cx.x + b.cx.x,
-            y: a.cx.y + b.cx.y,
-            z: a.cx.z + b.cx.z,
-        },
-        cy: Vec3 {
-            x: a.cy.x + b.cy.x,
-            y: a.cy.y + b.cy.y,
-            z: a.cy.z + b.cy.z,
-        },
-        cz: Vec3 {
-            x: a.cz.x + b.cz.x,
-            y: a.cz.y + b.cz.y,
-            z: a.cz.z + b.cz.z,
-        },
+        cx: add(a.cx, b.cx),
+        cy: add(a.cy, b.cy),
+        cz: add(a.cz, b.cz),
     }
 }
 
