@@ -1,7 +1,7 @@
 // The tests of a run, made before anything runs.
 ghost use mathlib.Core.Path.{_≡_};
 ghost use Rattle.scene.specs.Calls.{call};
-ghost use Rattle.joint.specs.Index.{isOther};
+ghost use Rattle.records.specs.Joint.{isOther};
 ghost use Rattle.scene.specs.Plain.{jointCause, callCause, earlyCause, verdict};
 ghost use Rattle.call_list.specs.Causes.{jointCauses};
 use calls::places::joint_place;

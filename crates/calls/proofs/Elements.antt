@@ -31,8 +31,8 @@ use Rattle.constraint.specs.Answer.{jointSim}
 use Rattle.joint.specs.declared.stage.Staged.{Staged}
 use Rattle.joint.specs.Stage.{staged, warmStartJoint, solveJoint, stageJoint, warmStartAs, solveAs}
 use Rattle.scene.specs.declared.Scene.{Scene}
-use Rattle.records.specs.Joint.{unusedJoint}
-use Rattle.joint.specs.Index.{caseOf, indexA, indexB}
+use Rattle.records.specs.Joint.{caseOf, unusedJoint}
+use Rattle.joint.specs.Index.{indexA, indexB}
 use Rattle.scene.specs.Scene.{stateAt, store}
 use Rattle.scene.specs.Calls.{call}
 use Rattle.scene.specs.Plain.{storeBoth, step}

@@ -24,7 +24,8 @@ use Rattle.constraint.specs.declared.velocity.Velocities.{Velocities}
 use Rattle.constraint.specs.Answer.{jointSim}
 use Rattle.joint.specs.declared.stage.Staged.{Staged}
 use Rattle.joint.specs.Stage.{staged, stageJoint, warmStartAs, solveAs}
-use Rattle.joint.specs.Index.{caseOf, indexA, indexB, indexCause}
+use Rattle.joint.specs.Index.{indexA, indexB, indexCause}
+use Rattle.records.specs.Joint.{caseOf}
 use Rattle.scene.specs.Scene.{stateAt, store}
 use Rattle.scene.specs.Plain.{storeBoth}
 use Rattle.direct.specs.declared.call.Call.{Call}

@@ -16,7 +16,8 @@ use Rattle.records.specs.declared.joint.JointUnion.the-variants.{Other}
 use Rattle.scene.specs.declared.Scene.{Scene}
 use Rattle.records.specs.Body.{isDynamic}
 use Rattle.constraint.specs.declared.velocity.Velocities.{Velocities}
-use Rattle.joint.specs.Index.{indexA, indexB, caseOf}
+use Rattle.joint.specs.Index.{indexA, indexB}
+use Rattle.records.specs.Joint.{caseOf}
 use Rattle.joint.specs.Store.{statePair, storePair}
 use Rattle.scene.specs.Scene.{jointAt, stateAt, NamesBody}
 use Rattle.scene.specs.Plain.{storeBoth, plainRun}

@@ -13,7 +13,8 @@ use Rattle.records.specs.declared.joint.JointSim.{JointSim}
 use Rattle.records.specs.declared.joint.JointUnion.{JointUnion}
 use Rattle.records.specs.declared.joint.JointUnion.the-variants.{Revolute, Spherical, Weld, Other}
 use Rattle.constraint.specs.Answer.{jointSim}
-use Rattle.joint.specs.Index.{caseOf, indexA, indexB, badIndex}
+use Rattle.joint.specs.Index.{indexA, indexB, badIndex}
+use Rattle.records.specs.Joint.{caseOf}
 use Rattle.scene.specs.Scene.{stateAt, store}
 use Rattle.scene.specs.Plain.{verdictOf, storeBoth}
 use Rattle.scene.specs.Claims.{LimitsNonNegative}

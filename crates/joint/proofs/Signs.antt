@@ -16,7 +16,8 @@ use denote.Enum.Declared.{tagOf}
 use Rattle.records.proofs.joint.JointUnion.{the-type}
 use Rattle.records.specs.declared.joint.JointUnion.{JointUnion}
 use Rattle.records.specs.declared.joint.JointUnion.the-variants.{Revolute, Spherical, Weld, Other}
-use Rattle.joint.specs.Index.{caseOf, badIndex}
+use Rattle.joint.specs.Index.{badIndex}
+use Rattle.records.specs.Joint.{caseOf}
 
 pub less-back : (z y : ℤ) (b : Bool) → SFits w32 z → ltZ (toZ w32 (ofZ w32 z)) y ≡ b → ltZ z y ≡ b
 less-back z y b f h = ap (λ x. ltZ x y) (sym (toZ-ofZ w32 z f)) ∙ h

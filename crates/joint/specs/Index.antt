@@ -1,4 +1,4 @@
--- Which case a joint is, the bodies that it names by its two indices, and document 01's tests of these. Definitions only. Assumes nothing.
+-- The bodies that a joint names by its two indices, and document 01's tests of these. Definitions only. Assumes nothing.
 use mathlib.Core.Bool.{Bool, true, false, cond}
 use Prim.Native.Nat.{ℕ, zero, suc}
 use lib.Dec.{leb}
@@ -7,20 +7,6 @@ use Rattle.records.specs.declared.joint.JointUnion.{JointUnion}
 use Rattle.records.specs.declared.joint.JointUnion.the-variants.{Revolute, Spherical, Weld, Other}
 use Rattle.records.specs.Body.{nullIndex}
 use Rattle.joint.specs.declared.index.Indices.{Indices}
-
--- which case a joint is
-abbrev pub caseOf : JointUnion → ℕ
-caseOf (Revolute r) = 0
-caseOf (Spherical r) = 1
-caseOf (Weld r) = 2
-caseOf Other = 3
-
--- the case is not one of the three
-abbrev pub isOther : JointUnion → Bool
-isOther (Revolute r) = false
-isOther (Spherical r) = false
-isOther (Weld r) = false
-isOther Other = true
 
 -- a joint's two indices, which stand in its kind's record; the empty case has none
 abbrev pub indexA : JointUnion → ℤ

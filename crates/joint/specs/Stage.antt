@@ -13,7 +13,7 @@ use Rattle.revolute.specs.Revolute.{warmStartRevolute, solveRevolute}
 use Rattle.spherical.specs.Spherical.{warmStartSpherical, solveSpherical}
 use Rattle.weld.specs.Weld.{warmStartWeld, solveWeld}
 use Rattle.joint.specs.declared.stage.Staged.{Staged}
-use Rattle.joint.specs.Index.{caseOf}
+use Rattle.records.specs.Joint.{caseOf}
 
 abbrev pub staged : JointUnion → Velocities → Staged
 staged union velocities = record { «union_» = union; velocities = velocities }

@@ -11,7 +11,7 @@ use Rattle.records.specs.declared.joint.JointSim.{JointSim}
 use Rattle.revolute.specs.Revolute.{prepareRevoluteJoint}
 use Rattle.spherical.specs.Spherical.{prepareSphericalJoint}
 use Rattle.weld.specs.Weld.{prepareWeldJoint}
-use Rattle.joint.specs.Index.{caseOf}
+use Rattle.records.specs.Joint.{caseOf}
 use Rattle.models.specs.declared.Model.{Model}
 
 -- a body that is awake, with its index; one of the static set; a state that the solver writes to

@@ -13,7 +13,8 @@ use Rattle.records.specs.declared.joint.JointUnion.{JointUnion}
 use Rattle.records.specs.declared.joint.JointUnion.the-variants.{Revolute, Spherical, Weld, Other}
 use Rattle.scene.specs.declared.Scene.{Scene}
 use Rattle.scene.specs.declared.Verdict.{Verdict}
-use Rattle.joint.specs.Index.{indexA, indexB, caseOf, isOther, badIndex}
+use Rattle.joint.specs.Index.{indexA, indexB, badIndex}
+use Rattle.records.specs.Joint.{caseOf, isOther}
 use Rattle.scene.specs.Scene.{jointAt}
 use Rattle.scene.specs.Calls.{Call, calls}
 use Rattle.scene.specs.Plain.{cause, verdictOf, firstCause, earlyCause, verdict, Accepted, done, refused, runCalls, plainRun}

@@ -20,7 +20,8 @@ use Rattle.revolute.specs.Revolute as R
 use Rattle.spherical.specs.Spherical as S
 use Rattle.weld.specs.Weld as W
 use Rattle.scene.specs.declared.Scene.{Scene}
-use Rattle.joint.specs.Index.{indexA, indexB, caseOf}
+use Rattle.joint.specs.Index.{indexA, indexB}
+use Rattle.records.specs.Joint.{caseOf}
 use Rattle.scene.specs.Scene.{jointAt, bodyAt, Dynamic, Names, ShareDynamic}
 use Rattle.scene.specs.Calls.{Call, calls, Listed, Solved, onlyOf, onlyOfTwo}
 use Rattle.scene.specs.Plain.{Accepted, runCalls, plainRun}

@@ -11,8 +11,8 @@ use Rattle.records.specs.declared.joint.JointSim.{JointSim}
 use Rattle.constraint.specs.Answer.{jointSim}
 use Rattle.scene.specs.declared.Scene.{Scene}
 use Rattle.scene.specs.Reorder.{runAll}
-use Rattle.records.specs.Joint.{unusedJoint}
-use Rattle.joint.specs.Index.{indexA, indexB, caseOf}
+use Rattle.records.specs.Joint.{caseOf, unusedJoint}
+use Rattle.joint.specs.Index.{indexA, indexB}
 use Rattle.scene.specs.Scene.{jointAt, stateAt}
 use Rattle.scene.specs.Calls.{Call}
 use Rattle.scene.specs.Plain.{causeIn, cause, stageAt, step}

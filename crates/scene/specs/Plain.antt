@@ -19,7 +19,8 @@ use Rattle.scene.specs.declared.Scene.{Scene}
 use Rattle.scene.specs.declared.Verdict.{Verdict}
 use Rattle.scene.specs.declared.Run.{Run}
 use Rattle.scene.specs.Reorder.{runAll}
-use Rattle.joint.specs.Index.{indexA, indexB, isOther, indexCause}
+use Rattle.joint.specs.Index.{indexA, indexB, indexCause}
+use Rattle.records.specs.Joint.{isOther}
 use Rattle.scene.specs.Scene.{jointAt, stateAt, store}
 use Rattle.scene.specs.Calls.{Call, calls}
 
