@@ -50,23 +50,25 @@ fn add_weld(sum: u32, j: WeldJoint) -> u32 {
     add_softness(add_softness(s, j.linear_spring), j.angular_spring)
 }
 
-fn add_prepared(sum: u32, joint: JointSim) -> u32 {
-    let s = add_base(sum, joint.base);
-    let union_ = joint.union_;
+fn add_union(sum: u32, union_: JointUnion) -> u32 {
     match union_ {
-        JointUnion::Revolute(j) => add_revolute(s, j),
-        JointUnion::Spherical(j) => add_spherical(s, j),
-        JointUnion::Weld(j) => add_weld(s, j),
-        JointUnion::Other => s,
+        JointUnion::Revolute(j) => add_revolute(sum, j),
+        JointUnion::Spherical(j) => add_spherical(sum, j),
+        JointUnion::Weld(j) => add_weld(sum, j),
+        JointUnion::Other => sum,
     }
+}
+
+fn add_prepared(sum: u32, joint: JointSim) -> u32 {
+    let union_ = joint.union_;
+    add_union(add_base(sum, joint.base), union_)
 }
 
 pub fn sum_prepared(joints: [JointSim; 32]) -> u32 {
     let mut sum = 0u32;
     let mut k: usize = 0;
     while k < 32 {
-        let joint = joints[k];
-        sum = add_prepared(sum, joint);
+        sum = add_prepared(sum, joints[k]);
         k += 1;
     }
     sum

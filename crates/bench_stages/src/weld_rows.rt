@@ -1,83 +1,80 @@
 // The stages of the weld joint by value, again and again: each call on what those before it left.
+use crate::gates::Pair;
 use crate::gates::gate_of;
+use crate::gates::prepared_joint;
+use crate::gates::solved_joint;
 use crate::gates::sum_gates;
+use crate::gates::unprepared_joints;
 use crate::gates::wall_bodies;
-use crate::gates::with_post;
+use crate::gates::wall_context;
+use crate::gates::wall_states;
+use crate::gates::with_velocities;
 use crate::prepared::sum_prepared;
-use bench_wall::wall::unprepared_wall;
-use records::body::store_velocities;
-use scene::Scene;
+use records::body::BodyState;
+use records::joint::JointSim;
 use weld::prepare_weld_joint;
 use weld::solve_weld_joint;
 use weld::warm_start_weld_joint;
 
-// The gates after so many prepares. The other rows begin with this too, so that prepare has one caller
-// and is inlined there.
-fn prepare_gates(calls: u64) -> Scene {
-    let mut scene = unprepared_wall(2);
+// The gates' joints after so many prepares. The other rows begin with this too, so that prepare has one
+// caller and is inlined there.
+fn prepare_joints(calls: u64) -> [JointSim; 32] {
+    let mut joints = unprepared_joints(2);
     let bodies = wall_bodies();
+    let context = wall_context();
     let mut call = 0u64;
     while call < calls {
         let k = gate_of(call);
-        let joint = scene.joints[k];
-        let a = bodies[k];
-        let b = bodies[k + 1];
-        let p = prepare_weld_joint(joint, scene.context, a, b);
-        let left = p.joint;
-        scene.joints[k] = left;
+        let p = prepare_weld_joint(joints[k], context, bodies[k], bodies[k + 1]);
+        joints[k] = prepared_joint(p);
         call += 1;
     }
-    scene
+    joints
 }
 
 pub fn prepares(calls: u64) -> u32 {
-    let scene = prepare_gates(calls);
-    let joints = scene.joints;
-    sum_prepared(joints)
+    sum_prepared(prepare_joints(calls))
+}
+
+// The states of a gate's two bodies after a warm start.
+fn warm_started(joint: JointSim, a: BodyState, b: BodyState) -> Pair {
+    let s = warm_start_weld_joint(joint, a, b);
+    with_velocities(a, b, s.velocities)
 }
 
 // The joints come back as they were, so they are not stored.
 pub fn warm_starts(calls: u64) -> u32 {
-    let scene = prepare_gates(32);
-    let joints = scene.joints;
-    let bodies = scene.bodies;
-    let mut states = with_post(bodies);
+    let joints = prepare_joints(32);
+    let mut states = wall_states();
     let mut call = 0u64;
     while call < calls {
         let k = gate_of(call);
-        let joint = joints[k];
-        let a = states[k];
-        let b = states[k + 1];
-        let s = warm_start_weld_joint(joint, a, b);
-        let v = s.velocities;
-        let stored_a = store_velocities(a, v.v_a, v.w_a);
-        let stored_b = store_velocities(b, v.v_b, v.w_b);
-        states[k] = stored_a;
-        states[k + 1] = stored_b;
+        let pair = warm_started(joints[k], states[k], states[k + 1]);
+        let mut state = pair.b;
+        states[k + 1] = state;
+        state = pair.a;
+        states[k] = state;
         call += 1;
     }
     sum_gates(joints, states)
 }
 
 pub fn solves(use_bias: bool, calls: u64) -> u32 {
-    let scene = prepare_gates(32);
-    let mut joints = scene.joints;
-    let bodies = scene.bodies;
-    let mut states = with_post(bodies);
+    let mut joints = prepare_joints(32);
+    let mut states = wall_states();
+    let context = wall_context();
     let mut call = 0u64;
     while call < calls {
         let k = gate_of(call);
-        let joint = joints[k];
         let a = states[k];
         let b = states[k + 1];
-        let s = solve_weld_joint(joint, scene.context, a, b, use_bias);
-        let left = s.joint;
-        joints[k] = left;
-        let v = s.velocities;
-        let stored_a = store_velocities(a, v.v_a, v.w_a);
-        let stored_b = store_velocities(b, v.v_b, v.w_b);
-        states[k] = stored_a;
-        states[k + 1] = stored_b;
+        let s = solve_weld_joint(joints[k], context, a, b, use_bias);
+        joints[k] = solved_joint(s);
+        let pair = with_velocities(a, b, s.velocities);
+        let mut state = pair.a;
+        states[k] = state;
+        state = pair.b;
+        states[k + 1] = state;
         call += 1;
     }
     sum_gates(joints, states)

@@ -6,13 +6,13 @@ use Rattle.bench_stages.proofs.weld_rows.solves.Statement.{statement}
 use Rattle.bench_stages.proofs.weld_rows.solves.Tie as tie
 
 abbrev Inv-loop : tie.InvT-loop
-Inv-loop use-bias calls scene joints₀ states₀ call₀ joints states call = call ≤ calls
+Inv-loop use-bias calls joints₀ states₀ context call₀ joints states call = call ≤ calls
 
 abbrev μ-loop : tie.MeasureT-loop
-μ-loop use-bias calls scene joints₀ states₀ call₀ joints states call = calls - call
+μ-loop use-bias calls joints₀ states₀ context call₀ joints states call = calls - call
 
 add-call : tie.Need-add-call Inv-loop μ-loop
-add-call c = omega (arith, c .before .before .before .before .before .before .before .before .before .loop-test .taken, c .before .before .before .before .before .before .before .before .before .before .before .before .before .before .before .good)
+add-call c = omega (arith, c .before .before .before .before .before .before .before .before .before .loop-test .taken, c .before .before .before .before .before .before .before .before .before .before .before .before .before .before .good)
 
 loop-less : tie.Need-loop-less Inv-loop μ-loop
 loop-less c = omega (arith, c .before .before .before .before .before .before .before .before .before .loop-test .taken)
@@ -21,4 +21,4 @@ loop-again : tie.Need-loop-again Inv-loop μ-loop
 loop-again c = omega (arith, c .before .before .before .before .before .before .before .before .before .loop-test .taken)
 
 pub solves-spec : {M : Type 1} → statement M
-solves-spec = tie.close (tie.spec Inv-loop μ-loop (λ c κs. tt) (λ c κs. tt) (λ c. search needs) (λ c κs. tt) (λ c. search needs) (λ c. search needs) (λ c. search needs) (λ c. search needs) (λ c. search needs) (λ c. search needs) (λ c. search needs) (λ c κs. tt) (λ c. search needs) (λ c. search needs) (λ c κs. tt) (λ c κs. tt) (λ c. search needs) (λ c. search needs) (λ c. search needs) (λ c. search needs) (λ c. search needs) add-call loop-less loop-again (λ c κs. tt) (λ c. tt))
+solves-spec = tie.close (tie.spec Inv-loop μ-loop (λ c κs. tt) (λ c κs. tt) (λ c κs. tt) (λ c. search needs) (λ c κs. tt) (λ c. search needs) (λ c. search needs) (λ c. search needs) (λ c. search needs) (λ c. search needs) (λ c. search needs) (λ c. search needs) (λ c κs. tt) (λ c κs. tt) (λ c. search needs) (λ c. search needs) (λ c κs. tt) (λ c. search needs) (λ c. search needs) (λ c. search needs) (λ c. search needs) (λ c. search needs) add-call loop-less loop-again (λ c κs. tt) (λ c. tt))
