@@ -1,6 +1,6 @@
 // The bodies of the models, and the part of a joint that does not depend on its kind.
 ghost use lib.IntN.{pos};
-ghost use Rattle.models.specs.Model.{Awake, Moves};
+ghost use Rattle.models.specs.Model.{Awake, Fixed, Moves};
 use crate::STEP;
 use math_functions::types::MAT3_ZERO;
 use math_functions::types::Matrix3;
@@ -13,6 +13,7 @@ use records::AWAKE_SET;
 use records::body::BodyRecord;
 use records::body::BodyState;
 use records::body::DYNAMIC_FLAG;
+use records::body::IDENTITY_BODY_STATE;
 use records::joint::JointBase;
 use records::joint::JointType;
 use solver::make_soft;
@@ -66,16 +67,25 @@ pub const FRAME_B: Transform = Transform {
 // The number of what stands fast, above those of all bodies that move.
 pub const POST: u8 = 32;
 
-// What stands fast: it is in the set of the static bodies, and has no state.
-pub const FIXED_BODY: BodyRecord = BodyRecord {
-    set_index: 0,
-    local_index: 0,
-    inv_mass: 0.0,
-    inv_inertia_world: MAT3_ZERO,
-    rotation: QUAT_IDENTITY,
-    center: VEC3_ZERO,
-    local_center: VEC3_ZERO,
-};
+// What stands fast: it is in the set of the static bodies, and has no state, so the identity state stands
+// for it.
+pub fn fixed_body() -> BodyRecord
+    ensures { λ r. ⌜ Fixed r ⌝ }
+{
+    BodyRecord {
+        set_index: 0,
+        local_index: 0,
+        inv_mass: 0.0,
+        inv_inertia_world: MAT3_ZERO,
+        rotation: QUAT_IDENTITY,
+        center: VEC3_ZERO,
+        local_center: VEC3_ZERO,
+    }
+}
+
+pub fn fixed_state() -> BodyState {
+    IDENTITY_BODY_STATE
+}
 
 // A slab at an index of the awake set, with its centre at x.
 pub fn slab(index: u8, x: f32) -> BodyRecord

@@ -1,11 +1,14 @@
 // A door on its hinge: a revolute joint whose spring shuts the door, whose motor opens it, and whose
 // limits stop it on both sides.
+ghost use mathlib.Core.Path.{_≡_};
 ghost use lib.IntN.{pos};
+ghost use Rattle.joint.specs.Index.{caseOf};
 ghost use Rattle.models.specs.Model.{OfCase, Fixed, Awake, Moves};
 use crate::Model;
 use crate::NO_SOFTNESS;
-use crate::body::FIXED_BODY;
 use crate::body::POST;
+use crate::body::fixed_body;
+use crate::body::fixed_state;
 use crate::body::joint_base;
 use crate::body::moving;
 use crate::body::slab;
@@ -14,7 +17,6 @@ use math_functions::types::VEC3_ZERO;
 use math_functions::types::Vec2;
 use math_functions::types::Vec3;
 use records::NULL_INDEX;
-use records::body::IDENTITY_BODY_STATE;
 use records::joint::JointSim;
 use records::joint::JointType;
 use records::joint::JointUnion;
@@ -55,19 +57,28 @@ pub const HINGE: RevoluteJoint = RevoluteJoint {
     enable_limit: true,
 };
 
+fn hinge() -> RevoluteJoint {
+    HINGE
+}
+
+fn hinge_joint(leaf: u8) -> JointSim
+    ensures { λ r. ⌜ caseOf (r .«union_») ≡ 0 ⌝ }
+{
+    JointSim {
+        base: joint_base(JointType::Revolute, 0, POST, leaf),
+        union_: JointUnion::Revolute(hinge()),
+    }
+}
+
 // The post stands fast, and the leaf is at an index of the awake set.
 pub fn door(leaf: u8) -> Model
     ensures { λ r. ⌜ OfCase 0 r × Fixed (r .«body_a») × Awake (pos leaf) (r .«body_b») × Moves (r .«state_b») ⌝ }
 {
-    let joint = JointSim {
-        base: joint_base(JointType::Revolute, 0, POST, leaf),
-        union_: JointUnion::Revolute(HINGE),
-    };
     Model {
-        joint,
-        body_a: FIXED_BODY,
+        joint: hinge_joint(leaf),
+        body_a: fixed_body(),
         body_b: slab(leaf, 1.0),
-        state_a: IDENTITY_BODY_STATE,
+        state_a: fixed_state(),
         state_b: moving(0.25),
     }
 }

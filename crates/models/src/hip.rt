@@ -1,6 +1,8 @@
 // A hip in its socket: a spherical joint with a spring and a motor, whose twist is limited on both
 // sides and whose swing by a cone.
+ghost use mathlib.Core.Path.{_≡_};
 ghost use lib.IntN.{pos};
+ghost use Rattle.joint.specs.Index.{caseOf};
 ghost use Rattle.models.specs.Model.{OfCase, Awake, Moves};
 use crate::Model;
 use crate::NO_SOFTNESS;
@@ -74,16 +76,25 @@ pub const SOCKET: SphericalJoint = SphericalJoint {
     enable_twist_limit: true,
 };
 
+fn socket() -> SphericalJoint {
+    SOCKET
+}
+
+fn socket_joint(pelvis: u8, thigh: u8) -> JointSim
+    ensures { λ r. ⌜ caseOf (r .«union_») ≡ 1 ⌝ }
+{
+    JointSim {
+        base: joint_base(JointType::Spherical, 1, pelvis, thigh),
+        union_: JointUnion::Spherical(socket()),
+    }
+}
+
 // The pelvis and the thigh are at indices of the awake set.
 pub fn hip(pelvis: u8, thigh: u8) -> Model
     ensures { λ r. ⌜ OfCase 1 r × Awake (pos pelvis) (r .«body_a») × Awake (pos thigh) (r .«body_b») × Moves (r .«state_a») × Moves (r .«state_b») ⌝ }
 {
-    let joint = JointSim {
-        base: joint_base(JointType::Spherical, 1, pelvis, thigh),
-        union_: JointUnion::Spherical(SOCKET),
-    };
     Model {
-        joint,
+        joint: socket_joint(pelvis, thigh),
         body_a: slab(pelvis, 2.0),
         body_b: slab(thigh, 3.0),
         state_a: moving(0.5),

@@ -2,6 +2,9 @@
 // pier.
 ghost use mathlib.Core.Path.{_≡_};
 ghost use Rattle.models.specs.Model.{prepared};
+ghost use Rattle.revolute.specs.Revolute.{prepareRevoluteJoint};
+ghost use Rattle.spherical.specs.Spherical.{prepareSphericalJoint};
+ghost use Rattle.weld.specs.Weld.{prepareWeldJoint};
 use records::body::BodyRecord;
 use records::body::BodyState;
 use records::joint::JointSim;
@@ -47,27 +50,37 @@ pub const STEP: StepContext = StepContext {
     enable_warm_starting: true,
 };
 
+fn prepare_revolute(model: Model, context: StepContext) -> JointSim
+    ensures { λ r. ⌜ r ≡ prepareRevoluteJoint (model .joint) context (model .«body_a») (model .«body_b») .joint ⌝ }
+{
+    let p = prepare_revolute_joint(model.joint, context, model.body_a, model.body_b);
+    p.joint
+}
+
+fn prepare_spherical(model: Model, context: StepContext) -> JointSim
+    ensures { λ r. ⌜ r ≡ prepareSphericalJoint (model .joint) context (model .«body_a») (model .«body_b») .joint ⌝ }
+{
+    let p = prepare_spherical_joint(model.joint, context, model.body_a, model.body_b);
+    p.joint
+}
+
+fn prepare_weld(model: Model, context: StepContext) -> JointSim
+    ensures { λ r. ⌜ r ≡ prepareWeldJoint (model .joint) context (model .«body_a») (model .«body_b») .joint ⌝ }
+{
+    let p = prepare_weld_joint(model.joint, context, model.body_a, model.body_b);
+    p.joint
+}
+
 // The joint of a model after the prepare of its kind.
 pub fn prepare(model: Model, context: StepContext) -> JointSim
     ensures { λ r. ⌜ r ≡ prepared model context ⌝ }
 {
     let joint = model.joint;
-    let a = model.body_a;
-    let b = model.body_b;
     let union_ = joint.union_;
     match union_ {
-        JointUnion::Revolute(_) => {
-            let p = prepare_revolute_joint(joint, context, a, b);
-            p.joint
-        }
-        JointUnion::Spherical(_) => {
-            let p = prepare_spherical_joint(joint, context, a, b);
-            p.joint
-        }
-        JointUnion::Weld(_) => {
-            let p = prepare_weld_joint(joint, context, a, b);
-            p.joint
-        }
+        JointUnion::Revolute(_) => prepare_revolute(model, context),
+        JointUnion::Spherical(_) => prepare_spherical(model, context),
+        JointUnion::Weld(_) => prepare_weld(model, context),
         JointUnion::Other => joint,
     }
 }

@@ -1,10 +1,13 @@
 // A strut welded to its pier: a weld joint that gives a little, in place and in angle.
+ghost use mathlib.Core.Path.{_≡_};
 ghost use lib.IntN.{pos};
+ghost use Rattle.joint.specs.Index.{caseOf};
 ghost use Rattle.models.specs.Model.{OfCase, Fixed, Awake, Moves};
 use crate::Model;
 use crate::NO_SOFTNESS;
-use crate::body::FIXED_BODY;
 use crate::body::POST;
+use crate::body::fixed_body;
+use crate::body::fixed_state;
 use crate::body::joint_base;
 use crate::body::moving;
 use crate::body::slab;
@@ -13,7 +16,6 @@ use math_functions::types::TRANSFORM_IDENTITY;
 use math_functions::types::VEC3_ZERO;
 use math_functions::types::Vec3;
 use records::NULL_INDEX;
-use records::body::IDENTITY_BODY_STATE;
 use records::joint::JointSim;
 use records::joint::JointType;
 use records::joint::JointUnion;
@@ -45,19 +47,28 @@ pub const WELD: WeldJoint = WeldJoint {
     angular_mass: MAT3_ZERO,
 };
 
+fn weld_record() -> WeldJoint {
+    WELD
+}
+
+fn weld_joint(strut: u8) -> JointSim
+    ensures { λ r. ⌜ caseOf (r .«union_») ≡ 2 ⌝ }
+{
+    JointSim {
+        base: joint_base(JointType::Weld, 2, POST, strut),
+        union_: JointUnion::Weld(weld_record()),
+    }
+}
+
 // The pier stands fast, and the strut is at an index of the awake set.
 pub fn strut(strut: u8) -> Model
     ensures { λ r. ⌜ OfCase 2 r × Fixed (r .«body_a») × Awake (pos strut) (r .«body_b») × Moves (r .«state_b») ⌝ }
 {
-    let joint = JointSim {
-        base: joint_base(JointType::Weld, 2, POST, strut),
-        union_: JointUnion::Weld(WELD),
-    };
     Model {
-        joint,
-        body_a: FIXED_BODY,
+        joint: weld_joint(strut),
+        body_a: fixed_body(),
         body_b: slab(strut, 1.0),
-        state_a: IDENTITY_BODY_STATE,
+        state_a: fixed_state(),
         state_b: moving(0.5),
     }
 }
