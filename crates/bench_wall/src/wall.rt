@@ -8,8 +8,8 @@ use models::prepare;
 use models::strut::strut;
 use records::body::BodyRecord;
 use records::body::BodyState;
+use records::joint::JointSim;
 use scene::Scene;
-use scene::empty_scene;
 
 // 0 is the door's joint, 1 the hip's and 2 the strut's; any other kind takes them in turn.
 fn model_of(kind: u8, k: u8) -> Model {
@@ -63,32 +63,63 @@ fn gate_state(k: u8) -> BodyState {
     state
 }
 
-// The wall with its joints before prepare.
-pub fn unprepared_wall(kind: u8) -> Scene {
-    let mut s = empty_scene(STEP);
-    let mut k = 0u8;
+fn gate_states() -> [BodyState; 32] {
+    let mut states = [gate_state(0); 32];
+    let mut k = 1u8;
     while k < 32 {
         let at = k as usize;
-        let gate = gate(kind, k);
-        let joint = gate.joint;
-        let state = gate_state(k);
-        s.joints[at] = joint;
-        s.bodies[at] = state;
+        states[at] = gate_state(k);
         k += 1;
     }
-    s.joint_count = 32;
-    s.body_count = 32;
-    s
+    states
+}
+
+fn wall_of(joints: [JointSim; 32]) -> Scene {
+    Scene {
+        joints,
+        bodies: gate_states(),
+        joint_count: 32,
+        body_count: 32,
+        context: STEP,
+    }
+}
+
+fn unprepared_joint(kind: u8, k: u8) -> JointSim {
+    let model = model_of(kind, k);
+    model.joint
+}
+
+fn unprepared_joints(kind: u8) -> [JointSim; 32] {
+    let mut joints = [unprepared_joint(kind, 0); 32];
+    let mut k = 1u8;
+    while k < 32 {
+        let at = k as usize;
+        joints[at] = unprepared_joint(kind, k);
+        k += 1;
+    }
+    joints
+}
+
+// The wall with its joints before prepare.
+pub fn unprepared_wall(kind: u8) -> Scene {
+    wall_of(unprepared_joints(kind))
+}
+
+fn prepared_joint(kind: u8, k: u8) -> JointSim {
+    prepare(gate(kind, k), STEP)
+}
+
+fn prepared_joints(kind: u8) -> [JointSim; 32] {
+    let mut joints = [prepared_joint(kind, 0); 32];
+    let mut k = 1u8;
+    while k < 32 {
+        let at = k as usize;
+        joints[at] = prepared_joint(kind, k);
+        k += 1;
+    }
+    joints
 }
 
 pub fn wall(kind: u8) -> Scene {
-    let mut s = unprepared_wall(kind);
-    let mut k = 0u8;
-    while k < 32 {
-        let at = k as usize;
-        let joint = prepare(gate(kind, k), STEP);
-        s.joints[at] = joint;
-        k += 1;
-    }
-    s
+    wall_of(prepared_joints(kind))
 }
