@@ -13,25 +13,28 @@ pub struct Gate {
     pub context: StepContext,
 }
 
+fn joint_of_gate_1(joints: [JointSim; 32]) -> JointSim {
+    joints[1]
+}
+
+fn first_states(bodies: [BodyState; 32]) -> [BodyState; 3] {
+    [bodies[0], bodies[1], bodies[2]]
+}
+
 // 0 is the door's joint, 1 the hip's and 2 the strut's.
 pub fn wall_gate(kind: u8) -> Gate {
     let scene = wall(kind);
-    let joint = scene.joints[1];
-    let a = scene.bodies[0];
-    let b = scene.bodies[1];
-    let c = scene.bodies[2];
+    let joints = scene.joints;
+    let bodies = scene.bodies;
     let context = scene.context;
-    let states = [a, b, c];
     Gate {
-        joint,
-        states,
+        joint: joint_of_gate_1(joints),
+        states: first_states(bodies),
         context,
     }
 }
 
 // The joint with each of its two bodies.
 pub fn checksum(joint: JointSim, states: [BodyState; 3]) -> u32 {
-    let a = states[0];
-    let b = states[1];
-    add_gate(add_gate(0, joint, a), joint, b)
+    add_gate(add_gate(0, joint, states[0]), joint, states[1])
 }

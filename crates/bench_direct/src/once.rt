@@ -11,36 +11,41 @@ use lent_calls::lend_warm_start_revolute_joint;
 use lent_calls::lend_warm_start_spherical_joint;
 use lent_calls::lend_warm_start_weld_joint;
 
-fn revolute(stage: u8) -> Left {
+fn sum_left(left: Left) -> u32 {
+    let states = left.states;
+    checksum(left.joint, states)
+}
+
+fn revolute(stage: u8) -> u32 {
     let gate = wall_gate(0);
     let states = gate.states;
     if stage == 0 {
-        return lend_warm_start_revolute_joint(gate.joint, states, 3);
+        return sum_left(lend_warm_start_revolute_joint(gate.joint, states, 3));
     }
-    lend_solve_revolute_joint(gate.joint, gate.context, states, 3, stage == 1)
+    sum_left(lend_solve_revolute_joint(gate.joint, gate.context, states, 3, stage == 1))
 }
 
-fn spherical(stage: u8) -> Left {
+fn spherical(stage: u8) -> u32 {
     let gate = wall_gate(1);
     let states = gate.states;
     if stage == 0 {
-        return lend_warm_start_spherical_joint(gate.joint, states, 3);
+        return sum_left(lend_warm_start_spherical_joint(gate.joint, states, 3));
     }
-    lend_solve_spherical_joint(gate.joint, gate.context, states, 3, stage == 1)
+    sum_left(lend_solve_spherical_joint(gate.joint, gate.context, states, 3, stage == 1))
 }
 
-fn weld(stage: u8) -> Left {
+fn weld(stage: u8) -> u32 {
     let gate = wall_gate(2);
     let states = gate.states;
     if stage == 0 {
-        return lend_warm_start_weld_joint(gate.joint, states, 3);
+        return sum_left(lend_warm_start_weld_joint(gate.joint, states, 3));
     }
-    lend_solve_weld_joint(gate.joint, gate.context, states, 3, stage == 1)
+    sum_left(lend_solve_weld_joint(gate.joint, gate.context, states, 3, stage == 1))
 }
 
 // The checksum after one call of a row.
 pub fn one_call(row: u8) -> u32 {
-    let left = match row {
+    match row {
         30 => revolute(0),
         31 => revolute(1),
         32 => revolute(2),
@@ -50,7 +55,5 @@ pub fn one_call(row: u8) -> u32 {
         36 => weld(0),
         37 => weld(1),
         _ => weld(2),
-    };
-    let states = left.states;
-    checksum(left.joint, states)
+    }
 }
