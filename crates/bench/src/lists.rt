@@ -4,6 +4,8 @@ ghost use lib.ListN.{length};
 use bench_wall::sum::add_gate;
 use bench_wall::wall::wall;
 use call_list::run_list;
+use records::body::BodyState;
+use records::joint::JointSim;
 use scene::Scene;
 
 // The stage of a call: that of the list, or the three in turn over the rounds.
@@ -28,16 +30,26 @@ fn list_of(stages: u8) -> [u8; 8192]
     list
 }
 
-fn sum_scene(scene: Scene) -> u32 {
+fn sum_gates(joints: [JointSim; 32], states: [BodyState; 32]) -> u32 {
     let mut sum = 0u32;
     let mut k: usize = 0;
     while k < 32 {
-        let joint = scene.joints[k];
-        let state = scene.bodies[k];
-        sum = add_gate(sum, joint, state);
+        sum = add_gate(sum, joints[k], states[k]);
         k += 1;
     }
     sum
+}
+
+fn sum_scene(scene: Scene) -> u32 {
+    let joints = scene.joints;
+    let states = scene.bodies;
+    sum_gates(joints, states)
+}
+
+// The scene that a run leaves.
+fn run_once(scene: Scene, list: &[u8]) -> Scene {
+    let run = run_list(scene, list);
+    run.scene
 }
 
 // The list again and again, each time on what the run before it left.
@@ -46,8 +58,7 @@ pub fn run_lists(kind: u8, stages: u8, repeats: u64) -> u32 {
     let mut scene = wall(kind);
     let mut n = 0u64;
     while n < repeats {
-        let run = run_list(scene, &list);
-        scene = run.scene;
+        scene = run_once(scene, &list);
         n += 1;
     }
     sum_scene(scene)
