@@ -1,18 +1,20 @@
 // Examples 13 to 16: prepared joints, one stage, and the states as they are stored.
 use crate::scenes::body;
 use crate::scenes::fixed_body;
+use crate::scenes::fixed_state;
 use crate::scenes::joint_base;
 use crate::scenes::moving;
+use crate::scenes::point_body;
 use crate::scenes::revolute_joint;
 use crate::scenes::step;
 use crate::scenes::weld_joint;
 use crate::words::is_bits;
+use constraint::answer::Solved;
 use joint::store::store_pair;
-use math_functions::types::MAT3_ZERO;
 use math_functions::types::Matrix3;
 use math_functions::types::Vec3;
 use records::body::BodyRecord;
-use records::body::IDENTITY_BODY_STATE;
+use records::body::BodyState;
 use records::joint::JointSim;
 use records::joint::JointType;
 use records::joint::JointUnion;
@@ -32,13 +34,22 @@ const MINUS_TWO: u32 = 0xc000_0000;
 
 const THREE: u32 = 0x4040_0000;
 
-fn prepared_weld(body_a: BodyRecord, body_b: BodyRecord) -> JointSim {
-    let sim = JointSim {
+fn weld_sim() -> JointSim {
+    JointSim {
         base: joint_base(JointType::Weld),
         union_: JointUnion::Weld(weld_joint()),
-    };
-    let p = prepare_weld_joint(sim, step(0.0), body_a, body_b);
+    }
+}
+
+fn prepared_weld(body_a: BodyRecord, body_b: BodyRecord) -> JointSim {
+    let p = prepare_weld_joint(weld_sim(), step(0.0), body_a, body_b);
     p.joint
+}
+
+// What a solve without bias leaves of the prepared weld and the velocities.
+fn solved_weld(body_a: BodyRecord, body_b: BodyRecord, a: BodyState, b: BodyState) -> Solved {
+    let sim = prepared_weld(body_a, body_b);
+    solve_weld_joint(sim, step(0.0), a, b, false)
 }
 
 // Whether the joint is a weld with this linear impulse along x.
@@ -51,10 +62,9 @@ fn has_linear_impulse(sim: JointSim, bits: u32) -> bool {
 }
 
 pub fn is_13() -> bool {
-    let sim = prepared_weld(body(0, 1.0, MAT3_ZERO), body(1, 1.0, MAT3_ZERO));
     let a = moving(0.0);
     let b = moving(2.0);
-    let s = solve_weld_joint(sim, step(0.0), a, b, false);
+    let s = solved_weld(point_body(0), point_body(1), a, b);
     let after = store_pair(a, b, false, s.velocities);
     is_bits(after.state_a.linear_velocity.x, ONE)
         & is_bits(after.state_b.linear_velocity.x, ONE)
@@ -62,10 +72,9 @@ pub fn is_13() -> bool {
 }
 
 pub fn is_14() -> bool {
-    let sim = prepared_weld(fixed_body(), body(0, 1.0, MAT3_ZERO));
-    let a = IDENTITY_BODY_STATE;
+    let a = fixed_state();
     let b = moving(2.0);
-    let s = solve_weld_joint(sim, step(0.0), a, b, false);
+    let s = solved_weld(fixed_body(), point_body(0), a, b);
     let after = store_pair(a, b, false, s.velocities);
     is_bits(after.state_b.linear_velocity.x, ZERO) & has_linear_impulse(s.joint, MINUS_TWO)
 }
@@ -99,44 +108,53 @@ fn has_motor_impulse(sim: JointSim, bits: u32) -> bool {
     }
 }
 
-pub fn is_15() -> bool {
-    let sim = JointSim {
+fn motor_sim() -> JointSim {
+    JointSim {
         base: joint_base(JointType::Revolute),
         union_: JointUnion::Revolute(revolute_joint(2.0, 4.0)),
-    };
-    let p = prepare_revolute_joint(
-        sim,
-        step(0.5),
-        fixed_body(),
-        body(0, 1.0, identity_matrix()),
-    );
-    let a = IDENTITY_BODY_STATE;
+    }
+}
+
+fn prepared_motor() -> JointSim {
+    let b = body(0, 1.0, identity_matrix());
+    let p = prepare_revolute_joint(motor_sim(), step(0.5), fixed_body(), b);
+    p.joint
+}
+
+pub fn is_15() -> bool {
+    let sim = prepared_motor();
+    let a = fixed_state();
     let b = moving(0.0);
-    let s = solve_revolute_joint(p.joint, step(0.5), a, b, false);
+    let s = solve_revolute_joint(sim, step(0.5), a, b, false);
     let after = store_pair(a, b, false, s.velocities);
     has_motor_impulse(s.joint, ONE) & is_bits(after.state_b.angular_velocity.z, ONE)
 }
 
-// The joint with the linear impulse (1, 0, 0), if it is a weld.
-fn with_linear_impulse(sim: JointSim) -> JointSim {
-    let u = sim.union_;
-    let base = sim.base;
+// The union with the linear impulse (1, 0, 0), if it is a weld's.
+fn with_impulse(u: JointUnion) -> JointUnion {
     match u {
         JointUnion::Weld(j) => {
             let mut next = j;
             next.linear_impulse.x = 1.0;
-            JointSim {
-                base,
-                union_: JointUnion::Weld(next),
-            }
+            JointUnion::Weld(next)
         }
-        _ => sim,
+        _ => u,
+    }
+}
+
+fn with_linear_impulse(sim: JointSim) -> JointSim {
+    let u = sim.union_;
+    let base = sim.base;
+    JointSim {
+        base,
+        union_: with_impulse(u),
     }
 }
 
 pub fn is_16() -> bool {
-    let body_0 = body(0, 1.0, MAT3_ZERO);
-    let sim = with_linear_impulse(prepared_weld(body_0, body_0));
+    let body_0 = point_body(0);
+    let mut sim = prepared_weld(body_0, body_0);
+    sim = with_linear_impulse(sim);
     let state = moving(2.0);
     let w = warm_start_weld_joint(sim, state, state);
     let after = store_pair(state, state, true, w.velocities);

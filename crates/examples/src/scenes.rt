@@ -11,6 +11,7 @@ use records::AWAKE_SET;
 use records::body::BodyRecord;
 use records::body::BodyState;
 use records::body::DYNAMIC_FLAG;
+use records::body::IDENTITY_BODY_STATE;
 use records::joint::JointBase;
 use records::joint::JointType;
 use records::joint::RevoluteJoint;
@@ -127,6 +128,11 @@ pub fn body(local_index: i32, inv_mass: f32, inv_inertia_world: Matrix3) -> Body
     }
 }
 
+// A body with the inverse mass 1 that does not turn.
+pub fn point_body(local_index: i32) -> BodyRecord {
+    body(local_index, 1.0, MAT3_ZERO)
+}
+
 // A body of another set, which gets the index -1.
 pub fn fixed_body() -> BodyRecord {
     BodyRecord {
@@ -138,6 +144,11 @@ pub fn fixed_body() -> BodyRecord {
         center: VEC3_ZERO,
         local_center: VEC3_ZERO,
     }
+}
+
+// The state of a body that gets no index.
+pub fn fixed_state() -> BodyState {
+    IDENTITY_BODY_STATE
 }
 
 // A dynamic body that moves along x.

@@ -5,9 +5,7 @@ mod print;
 mod wall;
 
 use call_list::run_list;
-use joint::stop_code::stop_code;
 use libc::STDOUT_FILENO;
-use models::Model;
 use models::STEP;
 use models::door::door;
 use models::hip::hip;
@@ -15,7 +13,9 @@ use models::prepare;
 use models::strut::strut;
 use print::print_body;
 use print::print_joint;
-use scene::Run;
+use records::body::BodyState;
+use records::body::IDENTITY_BODY_STATE;
+use records::joint::JointSim;
 use scene::Scene;
 use scene::empty_scene;
 use wall::print_walls;
@@ -23,38 +23,69 @@ use wall::print_walls;
 // Each joint in turn, three rounds: warm starts, solves with bias, solves without.
 const ROUNDS: [u8; 18] = [0, 0, 1, 0, 2, 0, 0, 1, 1, 1, 2, 1, 0, 2, 1, 2, 2, 2];
 
+// Places for joints, none in use.
+pub fn no_joints() -> [JointSim; 32] {
+    let empty = empty_scene(STEP);
+    empty.joints
+}
+
+fn hinge() -> JointSim {
+    prepare(door(0), STEP)
+}
+
+fn socket() -> JointSim {
+    prepare(hip(1, 2), STEP)
+}
+
+fn weld() -> JointSim {
+    prepare(strut(3), STEP)
+}
+
+fn joints() -> [JointSim; 32] {
+    let mut joints = no_joints();
+    let mut joint = hinge();
+    joints[0] = joint;
+    joint = socket();
+    joints[1] = joint;
+    joint = weld();
+    joints[2] = joint;
+    joints
+}
+
 // The door's leaf is body 0, pelvis and thigh are 1 and 2, and the strut is 3.
+fn bodies() -> [BodyState; 32] {
+    let mut model = door(0);
+    let mut bodies = [IDENTITY_BODY_STATE; 32];
+    let mut state = model.state_b;
+    bodies[0] = state;
+    model = hip(1, 2);
+    state = model.state_a;
+    bodies[1] = state;
+    state = model.state_b;
+    bodies[2] = state;
+    model = strut(3);
+    state = model.state_b;
+    bodies[3] = state;
+    bodies
+}
+
 fn build() -> Scene {
-    let leaf: Model = door(0);
-    let leg: Model = hip(1, 2);
-    let beam: Model = strut(3);
-    let mut s = empty_scene(STEP);
-    let hinge = prepare(leaf, STEP);
-    let socket = prepare(leg, STEP);
-    let weld = prepare(beam, STEP);
-    s.joints[0] = hinge;
-    s.joints[1] = socket;
-    s.joints[2] = weld;
-    s.joint_count = 3;
-    let leaf_state = leaf.state_b;
-    let pelvis_state = leg.state_a;
-    let thigh_state = leg.state_b;
-    let beam_state = beam.state_b;
-    s.bodies[0] = leaf_state;
-    s.bodies[1] = pelvis_state;
-    s.bodies[2] = thigh_state;
-    s.bodies[3] = beam_state;
-    s.body_count = 4;
-    s
+    Scene {
+        joints: joints(),
+        bodies: bodies(),
+        joint_count: 3,
+        body_count: 4,
+        context: STEP,
+    }
 }
 
 // One line for what the run answers.
-fn print_answer(run: Run) {
+fn print_answer(number: u32, place: u32, still: bool) {
     io::write_all(STDOUT_FILENO, b"number ");
-    io::print_decimal(STDOUT_FILENO, run.number as u64);
+    io::print_decimal(STDOUT_FILENO, number as u64);
     io::write_all(STDOUT_FILENO, b", place ");
-    io::print_decimal(STDOUT_FILENO, run.place as u64);
-    if run.still {
+    io::print_decimal(STDOUT_FILENO, place as u64);
+    if still {
         io::write_all(STDOUT_FILENO, b", still\n");
     } else {
         io::write_all(STDOUT_FILENO, b", not still\n");
@@ -62,36 +93,41 @@ fn print_answer(run: Run) {
 }
 
 // The first four bodies, a line for each.
-fn print_bodies(scene: Scene) {
+fn print_bodies(bodies: [BodyState; 32]) {
     let mut k = 0usize;
     while k < 4 {
-        let state = scene.bodies[k];
+        let state = bodies[k];
         print_body(k, state);
         k += 1;
     }
 }
 
 // The first four joints, a line for each.
-fn print_joints(scene: Scene) {
+fn print_joints(joints: [JointSim; 32]) {
     let mut k = 0usize;
     while k < 4 {
-        let joint = scene.joints[k];
-        let stops = stop_code(joint);
-        print_joint(k, joint, stops.code);
+        let joint = joints[k];
+        print_joint(k, joint);
         k += 1;
     }
 }
 
-// What a run answered and left.
-pub fn print_run(run: Run) {
-    print_answer(run);
-    let scene = run.scene;
-    print_bodies(scene);
-    print_joints(scene);
+fn print_scene(scene: Scene) {
+    let joints = scene.joints;
+    let bodies = scene.bodies;
+    print_bodies(bodies);
+    print_joints(joints);
+}
+
+// What a run of the list answers and leaves.
+pub fn print_run(scene: Scene, list: &[u8]) {
+    let run = run_list(scene, list);
+    print_answer(run.number, run.place, run.still);
+    print_scene(run.scene);
 }
 
 fn main() {
     io::write_all(STDOUT_FILENO, b"a door, a hip and a strut\n");
-    print_run(run_list(build(), &ROUNDS));
+    print_run(build(), &ROUNDS);
     print_walls();
 }

@@ -1,9 +1,13 @@
 // Printing for a panel: numbers with three decimals.
+use joint::stop_code::stop_code;
 use libc::STDOUT_FILENO;
 use math_functions::types::Vec3;
 use records::body::BodyState;
 use records::joint::JointSim;
 use records::joint::JointUnion;
+use records::joint::RevoluteJoint;
+use records::joint::SphericalJoint;
+use records::joint::WeldJoint;
 
 // From 2 ^ 23 up to 2 ^ 24 an f32 is a whole number, whose digits end its pattern.
 const WHOLE: f32 = 8388608.0;
@@ -75,37 +79,52 @@ fn print_limits(lower: f32, upper: f32) {
     print_number(upper);
 }
 
+fn print_hinge(j: RevoluteJoint) {
+    io::write_all(STDOUT_FILENO, b": hinge pushes");
+    print_vector(j.linear_impulse);
+    print_limits(j.lower_impulse, j.upper_impulse);
+}
+
+fn print_socket(j: SphericalJoint) {
+    io::write_all(STDOUT_FILENO, b": socket pushes");
+    print_vector(j.linear_impulse);
+    print_limits(j.lower_twist_impulse, j.upper_twist_impulse);
+    io::write_all(STDOUT_FILENO, b", cone");
+    print_number(j.swing_impulse);
+}
+
+fn print_weld(j: WeldJoint) {
+    io::write_all(STDOUT_FILENO, b": weld pushes");
+    print_vector(j.linear_impulse);
+}
+
 fn print_pushes(union_: JointUnion) {
     match union_ {
-        JointUnion::Revolute(j) => {
-            io::write_all(STDOUT_FILENO, b": hinge pushes");
-            print_vector(j.linear_impulse);
-            print_limits(j.lower_impulse, j.upper_impulse);
-        }
-        JointUnion::Spherical(j) => {
-            io::write_all(STDOUT_FILENO, b": socket pushes");
-            print_vector(j.linear_impulse);
-            print_limits(j.lower_twist_impulse, j.upper_twist_impulse);
-            io::write_all(STDOUT_FILENO, b", cone");
-            print_number(j.swing_impulse);
-        }
-        JointUnion::Weld(j) => {
-            io::write_all(STDOUT_FILENO, b": weld pushes");
-            print_vector(j.linear_impulse);
-        }
+        JointUnion::Revolute(j) => print_hinge(j),
+        JointUnion::Spherical(j) => print_socket(j),
+        JointUnion::Weld(j) => print_weld(j),
         JointUnion::Other => {
             io::write_all(STDOUT_FILENO, b": not in use");
         }
     }
 }
 
-// A joint's number, its pushes, and the code of the stops that push.
-pub fn print_joint(j: usize, joint: JointSim, stops: u32) {
+fn print_number_of(j: usize) {
     io::write_all(STDOUT_FILENO, b"joint ");
     io::print_decimal(STDOUT_FILENO, j as u64);
-    let union_ = joint.union_;
-    print_pushes(union_);
+}
+
+fn print_stops(code: u32) {
     io::write_all(STDOUT_FILENO, b", stop code ");
-    io::print_decimal(STDOUT_FILENO, stops as u64);
+    io::print_decimal(STDOUT_FILENO, code as u64);
     io::write_all(STDOUT_FILENO, b"\n");
+}
+
+// A joint's number, its pushes, and the code of the stops that push.
+pub fn print_joint(j: usize, joint: JointSim) {
+    let union_ = joint.union_;
+    let stops = stop_code(joint);
+    print_number_of(j);
+    print_pushes(union_);
+    print_stops(stops.code);
 }

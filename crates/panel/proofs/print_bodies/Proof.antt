@@ -1,27 +1,26 @@
--- `print_bodies` is safe. Assumes nothing.
-use Prim.Native.Nat.{ℕ, _-_, _≤_}
+-- `print_bodies` is safe and ends: the measure is the number of bodies that are left. Assumes nothing.
+use Prim.Native.Nat.{_-_, _≤_}
 use native.Mathlib.Omega.{arith}
-use borrow.Author.Needs.{needs}
 use Rattle.panel.proofs.print_bodies.Statement.{statement}
 use Rattle.panel.proofs.print_bodies.Tie as tie
 
 abbrev Inv-loop : tie.InvT-loop
-Inv-loop scene k₀ k = k ≤ 4
+Inv-loop bodies k₀ k = k ≤ 4
 
 abbrev μ-loop : tie.MeasureT-loop
-μ-loop scene k₀ k = 4 - k
+μ-loop bodies k₀ k = 4 - k
 
 loop-holds : tie.Need-loop-holds Inv-loop μ-loop
-loop-holds cNone = search needs
+loop-holds c = omega arith
 
 mul-state : tie.Need-mul-state Inv-loop μ-loop
 mul-state c = omega arith
 
-element-copy-out-state : tie.Need-element-copy-out-state Inv-loop μ-loop
-element-copy-out-state c = omega arith
+array-copy-out-state : tie.Need-array-copy-out-state Inv-loop μ-loop
+array-copy-out-state c = omega arith
 
 print-body-requires : tie.Need-print-body-requires Inv-loop μ-loop
-print-body-requires c κs = search needs
+print-body-requires c κs = tt
 
 add-k : tie.Need-add-k Inv-loop μ-loop
 add-k c = omega arith
@@ -33,7 +32,7 @@ loop-again : tie.Need-loop-again Inv-loop μ-loop
 loop-again c = omega arith
 
 returns : tie.Need-returns Inv-loop μ-loop
-returns cNone = tt
+returns c = tt
 
 pub print-bodies-spec : {M : Type 1} → statement M
 print-bodies-spec =
@@ -43,7 +42,7 @@ print-bodies-spec =
     μ-loop
     loop-holds
     mul-state
-    element-copy-out-state
+    array-copy-out-state
     print-body-requires
     add-k
     loop-less

@@ -1,30 +1,26 @@
--- `print_joints` is safe. Assumes nothing.
-use Prim.Native.Nat.{ℕ, _-_, _≤_}
+-- `print_joints` is safe and ends: the measure is the number of joints that are left. Assumes nothing.
+use Prim.Native.Nat.{_-_, _≤_}
 use native.Mathlib.Omega.{arith}
-use borrow.Author.Needs.{needs}
 use Rattle.panel.proofs.print_joints.Statement.{statement}
 use Rattle.panel.proofs.print_joints.Tie as tie
 
 abbrev Inv-loop : tie.InvT-loop
-Inv-loop scene k₀ k = k ≤ 4
+Inv-loop joints k₀ k = k ≤ 4
 
 abbrev μ-loop : tie.MeasureT-loop
-μ-loop scene k₀ k = 4 - k
+μ-loop joints k₀ k = 4 - k
 
 loop-holds : tie.Need-loop-holds Inv-loop μ-loop
-loop-holds cNone = search needs
+loop-holds c = omega arith
 
 mul-joint : tie.Need-mul-joint Inv-loop μ-loop
 mul-joint c = omega arith
 
-element-copy-out-joint : tie.Need-element-copy-out-joint Inv-loop μ-loop
-element-copy-out-joint c = omega arith
-
-stop-code-requires : tie.Need-stop-code-requires Inv-loop μ-loop
-stop-code-requires c κs = search needs
+array-copy-out-joint : tie.Need-array-copy-out-joint Inv-loop μ-loop
+array-copy-out-joint c = omega arith
 
 print-joint-requires : tie.Need-print-joint-requires Inv-loop μ-loop
-print-joint-requires c κs = search needs
+print-joint-requires c κs = tt
 
 add-k : tie.Need-add-k Inv-loop μ-loop
 add-k c = omega arith
@@ -36,7 +32,7 @@ loop-again : tie.Need-loop-again Inv-loop μ-loop
 loop-again c = omega arith
 
 returns : tie.Need-returns Inv-loop μ-loop
-returns cNone = tt
+returns c = tt
 
 pub print-joints-spec : {M : Type 1} → statement M
 print-joints-spec =
@@ -46,8 +42,7 @@ print-joints-spec =
     μ-loop
     loop-holds
     mul-joint
-    element-copy-out-joint
-    stop-code-requires
+    array-copy-out-joint
     print-joint-requires
     add-k
     loop-less
