@@ -84,6 +84,10 @@ pub fn cased_joint(p: &[u8]) -> JointSim {
     joint(word(p, 0), behind(p, 1))
 }
 
+pub fn is_cased_joint(p: &[u8]) -> bool {
+    is_joint(word(p, 0), behind(p, 1))
+}
+
 pub fn same_cased_joint(p: &[u8], joint: JointSim) -> bool {
     same_joint(word(p, 0), behind(p, 1), joint)
 }

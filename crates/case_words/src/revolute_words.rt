@@ -49,7 +49,8 @@ pub fn record(p: &[u8]) -> RevoluteJoint {
     }
 }
 
-pub fn same_record(p: &[u8], j: RevoluteJoint) -> bool {
+// Whether the words before the indices are the joint's.
+fn same_settings(p: &[u8], j: RevoluteJoint) -> bool {
     same_vec3(p, 0, j.linear_impulse)
         & same_vec2(p, 3, j.perp_impulse)
         & same_float(p, 5, j.spring_impulse)
@@ -63,7 +64,11 @@ pub fn same_record(p: &[u8], j: RevoluteJoint) -> bool {
         & same_float(p, 13, j.target_angle)
         & same_float(p, 14, j.lower_angle)
         & same_float(p, 15, j.upper_angle)
-        & same_int(p, 16, j.index_a)
+}
+
+// Whether the words from the indices on are the joint's.
+fn same_solver_data(p: &[u8], j: RevoluteJoint) -> bool {
+    same_int(p, 16, j.index_a)
         & same_int(p, 17, j.index_b)
         & same_transform(p, 18, j.frame_a)
         & same_transform(p, 25, j.frame_b)
@@ -77,4 +82,8 @@ pub fn same_record(p: &[u8], j: RevoluteJoint) -> bool {
         & same_switch(p, 49, j.enable_spring)
         & same_switch(p, 50, j.enable_motor)
         & same_switch(p, 51, j.enable_limit)
+}
+
+pub fn same_record(p: &[u8], j: RevoluteJoint) -> bool {
+    same_settings(p, j) & same_solver_data(p, j)
 }

@@ -53,7 +53,8 @@ pub fn record(p: &[u8]) -> SphericalJoint {
     }
 }
 
-pub fn same_record(p: &[u8], j: SphericalJoint) -> bool {
+// Whether the words before the indices are the joint's.
+fn same_settings(p: &[u8], j: SphericalJoint) -> bool {
     same_vec3(p, 0, j.linear_impulse)
         & same_vec3(p, 3, j.spring_impulse)
         & same_vec3(p, 6, j.motor_impulse)
@@ -68,7 +69,11 @@ pub fn same_record(p: &[u8], j: SphericalJoint) -> bool {
         & same_float(p, 19, j.upper_twist_angle)
         & same_float(p, 20, j.cone_angle)
         & same_quat(p, 21, j.target_rotation)
-        & same_int(p, 25, j.index_a)
+}
+
+// Whether the words from the indices on are the joint's.
+fn same_solver_data(p: &[u8], j: SphericalJoint) -> bool {
+    same_int(p, 25, j.index_a)
         & same_int(p, 26, j.index_b)
         & same_transform(p, 27, j.frame_a)
         & same_transform(p, 34, j.frame_b)
@@ -83,4 +88,8 @@ pub fn same_record(p: &[u8], j: SphericalJoint) -> bool {
         & same_switch(p, 65, j.enable_motor)
         & same_switch(p, 66, j.enable_cone_limit)
         & same_switch(p, 67, j.enable_twist_limit)
+}
+
+pub fn same_record(p: &[u8], j: SphericalJoint) -> bool {
+    same_settings(p, j) & same_solver_data(p, j)
 }

@@ -5,10 +5,11 @@
 // number, place, still, the two counts, the context, the joints and the states. As in stages.rt,
 // what was read is compared with the words that it was read from too.
 ghost use Prim.Native.Nat.{_≤_};
+use crate::scene_words::behind_joints;
+use crate::scene_words::joints_of;
 use crate::scene_words::same_joints;
 use crate::scene_words::same_states;
-use crate::scene_words::with_joints;
-use crate::scene_words::with_states;
+use crate::scene_words::states_of;
 use crate::scene_words::words_of_joints;
 use call_list::run_list;
 use case_words::compare::has_words;
@@ -23,7 +24,6 @@ use case_words::words::plus;
 use case_words::words::word;
 use scene::Run;
 use scene::Scene;
-use scene::empty_scene;
 
 // How many words stand before the joints, in the inputs and in the answer.
 const HEAD_WORDS: usize = 5 + CONTEXT_WORDS;
@@ -32,35 +32,23 @@ fn scene_of(p: &[u8], joints: usize, states: usize) -> Scene
     requires { ⌜ (joints ≤ 32) × (states ≤ 32) ⌝ }
 {
     let rest = behind(p, HEAD_WORDS);
-    let empty = empty_scene(context(behind(p, 5)));
-    let no_joints = empty.joints;
-    let no_states = empty.bodies;
-    let step = empty.context;
     Scene {
-        joints: with_joints(no_joints, rest, joints),
-        bodies: with_states(
-            no_states,
-            behind(rest, words_of_joints(rest, joints)),
-            states,
-        ),
+        joints: joints_of(rest, joints),
+        bodies: states_of(behind_joints(rest, joints), states),
         joint_count: word(p, 0),
         body_count: word(p, 1),
-        context: step,
+        context: context(behind(p, 5)),
     }
 }
 
 // Whether the words are a scene's, from the context on.
 fn same_scene(p: &[u8], joints: usize, states: usize, scene: Scene) -> bool {
-    let rest = behind(p, CONTEXT_WORDS);
     let all_joints = scene.joints;
     let all_states = scene.bodies;
+    let rest = behind(p, CONTEXT_WORDS);
     same_context(p, scene.context)
         & same_joints(rest, all_joints, joints)
-        & same_states(
-            behind(rest, words_of_joints(rest, joints)),
-            all_states,
-            states,
-        )
+        & same_states(behind_joints(rest, joints), all_states, states)
 }
 
 // The first n bytes, or all.
@@ -71,15 +59,26 @@ fn first_bytes(p: &[u8], n: usize) -> &[u8] {
     p
 }
 
+// Whether the words begin with number, place and still of a run.
+fn same_answer(p: &[u8], number: u32, place: u32, still: bool) -> bool {
+    same_word(p, 0, number) & same_word(p, 1, place) & same_switch(p, 2, still)
+}
+
 // Whether the words are those of what a run answers.
 fn same_run(p: &[u8], joints: usize, states: usize, run: Run) -> bool {
-    let scene = run.scene;
-    same_word(p, 0, run.number)
-        & same_word(p, 1, run.place)
-        & same_switch(p, 2, run.still)
-        & same_word(p, 3, scene.joint_count)
-        & same_word(p, 4, scene.body_count)
-        & same_scene(behind(p, 5), joints, states, scene)
+    same_answer(p, run.number, run.place, run.still)
+        & same_word(p, 3, run.scene.joint_count)
+        & same_word(p, 4, run.scene.body_count)
+        & same_scene(behind(p, 5), joints, states, run.scene)
+}
+
+// Whether the list runs on the scene of the inputs as the answer says.
+fn runs_to(p: &[u8], joints: usize, states: usize, list: &[u8], answer: &[u8]) -> bool
+    requires { ⌜ (joints ≤ 32) × (states ≤ 32) ⌝ }
+{
+    let scene = scene_of(p, joints, states);
+    let run = run_list(scene, list);
+    same_scene(behind(p, 5), joints, states, scene) & same_run(answer, joints, states, run)
 }
 
 // The case of `joints` joints, `states` states and a list of `bytes` bytes.
@@ -91,18 +90,11 @@ fn agrees_run(p: &[u8], joints: usize, states: usize, bytes: usize) -> bool
     let list = behind(before, words);
     let list_words = bytes / 4 + (bytes % 4 + 3) / 4;
     let answer = behind(list, list_words);
-    let scene = scene_of(p, joints, states);
     has_words(
         p,
         plus(plus(2 * HEAD_WORDS, plus(words, words)), list_words),
     )
-        & same_scene(behind(p, 5), joints, states, scene)
-        & same_run(
-            answer,
-            joints,
-            states,
-            run_list(scene, first_bytes(list, bytes)),
-        )
+        & runs_to(p, joints, states, first_bytes(list, bytes), answer)
 }
 
 pub fn agrees(f: u32, p: &[u8]) -> bool {

@@ -7,45 +7,67 @@ use case_words::joint_words::cased_words;
 use case_words::joint_words::same_cased_joint;
 use case_words::joint_words::same_joint;
 use case_words::record_words::STATE_WORDS;
+use case_words::record_words::context;
 use case_words::record_words::same_state;
 use case_words::record_words::state;
 use case_words::words::behind;
 use case_words::words::plus;
 use records::body::BodyState;
+use records::body::IDENTITY_BODY_STATE;
 use records::joint::JointSim;
+use scene::empty_scene;
+
+// The index behind the joint that begins at i.
+fn behind_joint(p: &[u8], i: usize) -> usize {
+    plus(i, cased_words(behind(p, i)))
+}
 
 // How many words the first `count` joints of some words have.
 pub fn words_of_joints(p: &[u8], count: usize) -> usize {
     let mut words = 0usize;
     let mut k = 0usize;
     while k < count {
-        words = plus(words, cased_words(behind(p, words)));
+        words = behind_joint(p, words);
         k += 1;
     }
     words
 }
 
-// The joints with the first `count` of them read.
-pub fn with_joints(unused: [JointSim; 32], p: &[u8], count: usize) -> [JointSim; 32]
+// The words behind the first `count` joints.
+pub fn behind_joints(p: &[u8], count: usize) -> &[u8] {
+    behind(p, words_of_joints(p, count))
+}
+
+fn joint_at(p: &[u8], i: usize) -> JointSim {
+    cased_joint(behind(p, i))
+}
+
+// The joints of a scene that has none in use, whatever its context.
+fn no_joints(p: &[u8]) -> [JointSim; 32] {
+    let empty = empty_scene(context(p));
+    empty.joints
+}
+
+// The joints, with the first `count` of them read.
+pub fn joints_of(p: &[u8], count: usize) -> [JointSim; 32]
     requires { ⌜ count ≤ 32 ⌝ }
 {
-    let mut joints = unused;
+    let mut joints = no_joints(p);
     let mut words = 0usize;
     let mut k = 0usize;
     while k < count {
-        let rest = behind(p, words);
-        let joint = cased_joint(rest);
+        let joint = joint_at(p, words);
         joints[k] = joint;
-        words = plus(words, cased_words(rest));
+        words = behind_joint(p, words);
         k += 1;
     }
     joints
 }
 
-pub fn with_states(unused: [BodyState; 32], p: &[u8], count: usize) -> [BodyState; 32]
+pub fn states_of(p: &[u8], count: usize) -> [BodyState; 32]
     requires { ⌜ count ≤ 32 ⌝ }
 {
-    let mut states = unused;
+    let mut states = [IDENTITY_BODY_STATE; 32];
     let mut k = 0usize;
     while k < count {
         let state = state(behind(p, k * STATE_WORDS));
@@ -71,9 +93,9 @@ fn is_identity_state(state: BodyState) -> bool {
     same_state(words, state)
 }
 
-fn same_joint_place(is_given: bool, p: &[u8], joint: JointSim) -> bool {
+fn same_joint_place(is_given: bool, p: &[u8], i: usize, joint: JointSim) -> bool {
     if is_given {
-        return same_cased_joint(p, joint);
+        return same_cased_joint(behind(p, i), joint);
     }
     is_unused_joint(joint)
 }
@@ -91,10 +113,8 @@ pub fn same_joints(p: &[u8], joints: [JointSim; 32], count: usize) -> bool {
     let mut words = 0usize;
     let mut k = 0usize;
     while k < 32 {
-        let rest = behind(p, words);
-        let joint = joints[k];
-        same = same & same_joint_place(k < count, rest, joint);
-        words = plus(words, cased_words(rest));
+        same = same & same_joint_place(k < count, p, words, joints[k]);
+        words = behind_joint(p, words);
         k += 1;
     }
     same

@@ -14,7 +14,6 @@ use case_words::joint_words::words_of;
 use case_words::record_words::BODY_WORDS;
 use case_words::record_words::CONTEXT_WORDS;
 use case_words::record_words::STATE_WORDS;
-use case_words::record_words::body;
 use case_words::record_words::context;
 use case_words::record_words::same_context;
 use case_words::record_words::same_state;
@@ -31,6 +30,7 @@ use joint::store::store_pair;
 use records::NULL_INDEX;
 use records::body::BodyState;
 use records::body::IDENTITY_BODY_STATE;
+use solver::StepContext;
 
 // Where a case with states has its parts.
 struct Parts {
@@ -130,62 +130,64 @@ fn is_whole(p: &[u8], parts: Parts, at: Indices) -> bool {
         && is_index(at.b, count)
 }
 
-// Prepare takes the joint, the context and the two bodies.
-fn agrees_prepare(kind: u32, p: &[u8]) -> bool {
-    let words = words_of(kind);
-    let bodies = words + CONTEXT_WORDS;
-    let answer = bodies + 2 * BODY_WORDS;
-    let step = context(behind(p, words));
-    let body_a = body(behind(p, bodies));
-    let body_b = body(behind(p, bodies + BODY_WORDS));
-    let r = prepare(kind, joint(kind, p), step, body_a, body_b);
-    has_words(p, plus(answer, words))
-        & is_joint(kind, p)
-        & same_context(behind(p, words), step)
-        & (r.number == 0)
-        & (r.place == 0)
-        & same_joint(kind, behind(p, answer), r.joint)
+// Whether the stage leaves what the answer has.
+fn is_prepare(kind: u32, p: &[u8], answer: &[u8]) -> bool {
+    let r = prepare(kind, p);
+    same_joint(kind, answer, r.joint) & (r.number == 0) & (r.place == 0)
 }
 
-// Warm start takes the joint and the states.
+fn agrees_prepare(kind: u32, p: &[u8]) -> bool {
+    let words = words_of(kind);
+    let answer = words + CONTEXT_WORDS + 2 * BODY_WORDS;
+    let step = behind(p, words);
+    has_words(p, plus(answer, words))
+        & is_joint(kind, p)
+        & same_context(step, context(step))
+        & is_prepare(kind, p, behind(p, answer))
+}
+
+fn is_warm_start(kind: u32, p: &[u8], parts: Parts, at: Indices) -> bool {
+    let pair = states_of(p, parts, at);
+    let r = warm_start(kind, p, pair);
+    same_joint(kind, behind(p, parts.joint_after), r.joint)
+        & same_states(p, parts, at, stored(at, pair, r.velocities))
+        & (r.number == 0)
+        & (r.place == 0)
+}
+
 fn agrees_warm_start(kind: u32, p: &[u8]) -> bool {
     let parts = parts_of(kind, p, words_of(kind));
     let at = indices_at(kind, p);
-    let pair = states_of(p, parts, at);
-    let r = warm_start(kind, joint(kind, p), pair.state_a, pair.state_b);
-    is_whole(p, parts, at)
-        & is_joint(kind, p)
-        & (r.number == 0)
-        & (r.place == 0)
-        & same_joint(kind, behind(p, parts.joint_after), r.joint)
-        & same_states(p, parts, at, stored(at, pair, r.velocities))
+    is_whole(p, parts, at) & is_joint(kind, p) & is_warm_start(kind, p, parts, at)
 }
 
-// Solve takes the joint, the context, a switch and the states.
+fn is_solve(
+    kind: u32,
+    p: &[u8],
+    step: StepContext,
+    use_bias: bool,
+    parts: Parts,
+    at: Indices,
+) -> bool {
+    let pair = states_of(p, parts, at);
+    let r = solve(kind, p, step, use_bias, pair);
+    same_joint(kind, behind(p, parts.joint_after), r.joint)
+        & same_states(p, parts, at, stored(at, pair, r.velocities))
+        & (r.number == 0)
+        & (r.place == 0)
+}
+
 fn agrees_solve(kind: u32, p: &[u8]) -> bool {
     let words = words_of(kind);
     let bias = words + CONTEXT_WORDS;
+    let step = context(behind(p, words));
     let parts = parts_of(kind, p, bias + 1);
     let at = indices_at(kind, p);
-    let pair = states_of(p, parts, at);
-    let step = context(behind(p, words));
-    let use_bias = switch(p, bias);
-    let r = solve(
-        kind,
-        joint(kind, p),
-        step,
-        pair.state_a,
-        pair.state_b,
-        use_bias,
-    );
     is_whole(p, parts, at)
         & is_joint(kind, p)
         & same_context(behind(p, words), step)
         & is_switch(p, bias)
-        & (r.number == 0)
-        & (r.place == 0)
-        & same_joint(kind, behind(p, parts.joint_after), r.joint)
-        & same_states(p, parts, at, stored(at, pair, r.velocities))
+        & is_solve(kind, p, step, switch(p, bias), parts, at)
 }
 
 // The functions are numbered in fours, a kind each, and the fourth is none.

@@ -13,23 +13,17 @@ abbrev μ-loop : tie.MeasureT-loop
 loop-holds : tie.Need-loop-holds Inv-loop μ-loop
 loop-holds c = search needs
 
-behind-requires : tie.Need-behind-requires Inv-loop μ-loop
-behind-requires c κs = search needs
+mul-same-joint-place : tie.Need-mul-same-joint-place Inv-loop μ-loop
+mul-same-joint-place c = search needs
 
-mul-joint : tie.Need-mul-joint Inv-loop μ-loop
-mul-joint c = search needs
-
-array-copy-out-joint : tie.Need-array-copy-out-joint Inv-loop μ-loop
-array-copy-out-joint c = search needs
+array-copy-out-same-joint-place : tie.Need-array-copy-out-same-joint-place Inv-loop μ-loop
+array-copy-out-same-joint-place c = search needs
 
 same-joint-place-requires : tie.Need-same-joint-place-requires Inv-loop μ-loop
-same-joint-place-requires c κs = search needs
+same-joint-place-requires c κs = tt
 
-cased-words-requires : tie.Need-cased-words-requires Inv-loop μ-loop
-cased-words-requires c κs = search needs
-
-plus-requires : tie.Need-plus-requires Inv-loop μ-loop
-plus-requires c κs = search needs
+behind-joint-requires : tie.Need-behind-joint-requires Inv-loop μ-loop
+behind-joint-requires c κs = tt
 
 add-k : tie.Need-add-k Inv-loop μ-loop
 add-k c = search needs
@@ -50,12 +44,10 @@ same-joints-spec =
     Inv-loop
     μ-loop
     loop-holds
-    behind-requires
-    mul-joint
-    array-copy-out-joint
+    mul-same-joint-place
+    array-copy-out-same-joint-place
     same-joint-place-requires
-    cased-words-requires
-    plus-requires
+    behind-joint-requires
     add-k
     loop-less
     loop-again

@@ -17,7 +17,7 @@ mul-behind : tie.Need-mul-behind Inv-loop μ-loop
 mul-behind c = search needs
 
 behind-requires : tie.Need-behind-requires Inv-loop μ-loop
-behind-requires c κs = search needs
+behind-requires c κs = tt
 
 mul-state : tie.Need-mul-state Inv-loop μ-loop
 mul-state c = search needs
@@ -26,7 +26,7 @@ array-copy-out-state : tie.Need-array-copy-out-state Inv-loop μ-loop
 array-copy-out-state c = search needs
 
 same-state-place-requires : tie.Need-same-state-place-requires Inv-loop μ-loop
-same-state-place-requires c κs = search needs
+same-state-place-requires c κs = tt
 
 add-k : tie.Need-add-k Inv-loop μ-loop
 add-k c = search needs

@@ -13,14 +13,8 @@ abbrev μ-loop : tie.MeasureT-loop
 loop-holds : tie.Need-loop-holds Inv-loop μ-loop
 loop-holds c = search needs
 
-behind-requires : tie.Need-behind-requires Inv-loop μ-loop
-behind-requires c κs = search needs
-
-cased-words-requires : tie.Need-cased-words-requires Inv-loop μ-loop
-cased-words-requires c κs = search needs
-
-plus-requires : tie.Need-plus-requires Inv-loop μ-loop
-plus-requires c κs = search needs
+behind-joint-requires : tie.Need-behind-joint-requires Inv-loop μ-loop
+behind-joint-requires c κs = tt
 
 add-k : tie.Need-add-k Inv-loop μ-loop
 add-k c = search needs
@@ -41,9 +35,7 @@ words-of-joints-spec =
     Inv-loop
     μ-loop
     loop-holds
-    behind-requires
-    cased-words-requires
-    plus-requires
+    behind-joint-requires
     add-k
     loop-less
     loop-again

@@ -1,8 +1,8 @@
--- `replay::scene_words::with_states` is safe and ends: the measure is the number of states that are left. Assumes nothing.
+-- `replay::scene_words::states_of` is safe and ends: the measure is the number of states that are left. Assumes nothing.
 use Prim.Native.Nat.{_-_}
 use borrow.Author.Needs.{needs}
-use Rattle.replay.proofs.scene_words.with_states.Statement.{statement}
-use Rattle.replay.proofs.scene_words.with_states.Tie as tie
+use Rattle.replay.proofs.scene_words.states_of.Statement.{statement}
+use Rattle.replay.proofs.scene_words.states_of.Tie as tie
 
 abbrev Inv-loop : tie.InvT-loop
 Inv-loop p count states₀ k₀ states k = Unit {0}
@@ -17,10 +17,10 @@ mul-behind : tie.Need-mul-behind Inv-loop μ-loop
 mul-behind c = search needs
 
 behind-requires : tie.Need-behind-requires Inv-loop μ-loop
-behind-requires c κs = search needs
+behind-requires c κs = tt
 
 state-requires : tie.Need-state-requires Inv-loop μ-loop
-state-requires c κs = search needs
+state-requires c κs = tt
 
 mul-states : tie.Need-mul-states Inv-loop μ-loop
 mul-states c = search needs
@@ -40,8 +40,8 @@ loop-again c = search needs
 returns : tie.Need-returns Inv-loop μ-loop
 returns c = search needs
 
-pub with-states-spec : {M : Type 1} → statement M
-with-states-spec =
+pub states-of-spec : {M : Type 1} → statement M
+states-of-spec =
     tie.close
     (tie.spec
     Inv-loop
