@@ -116,8 +116,9 @@ fn motor_sim() -> JointSim {
 }
 
 fn prepared_motor() -> JointSim {
+    let sim = motor_sim();
     let b = body(0, 1.0, identity_matrix());
-    let p = prepare_revolute_joint(motor_sim(), step(0.5), fixed_body(), b);
+    let p = prepare_revolute_joint(sim, step(0.5), fixed_body(), b);
     p.joint
 }
 

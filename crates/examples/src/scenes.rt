@@ -44,17 +44,19 @@ pub fn step(h: f32) -> StepContext {
 }
 
 pub fn joint_base(type_: JointType) -> JointBase {
+    let frame = TRANSFORM_IDENTITY;
+    let no_inertia = MAT3_ZERO;
     JointBase {
         joint_id: 0,
         body_id_a: 0,
         body_id_b: 0,
         type_,
-        local_frame_a: TRANSFORM_IDENTITY,
-        local_frame_b: TRANSFORM_IDENTITY,
+        local_frame_a: frame,
+        local_frame_b: frame,
         inv_mass_a: 0.0,
         inv_mass_b: 0.0,
-        inv_i_a: MAT3_ZERO,
-        inv_i_b: MAT3_ZERO,
+        inv_i_a: no_inertia,
+        inv_i_b: no_inertia,
         constraint_hertz: 0.0,
         constraint_damping_ratio: 0.0,
         constraint_softness: no_softness(),
@@ -65,27 +67,32 @@ pub fn joint_base(type_: JointType) -> JointBase {
 }
 
 pub fn weld_joint() -> WeldJoint {
+    let frame = TRANSFORM_IDENTITY;
+    let zero = VEC3_ZERO;
+    let rigid = no_softness();
     WeldJoint {
         linear_hertz: 0.0,
         linear_damping_ratio: 0.0,
         angular_hertz: 0.0,
         angular_damping_ratio: 0.0,
-        linear_spring: no_softness(),
-        angular_spring: no_softness(),
-        linear_impulse: VEC3_ZERO,
-        angular_impulse: VEC3_ZERO,
+        linear_spring: rigid,
+        angular_spring: rigid,
+        linear_impulse: zero,
+        angular_impulse: zero,
         index_a: 0,
         index_b: 0,
-        frame_a: TRANSFORM_IDENTITY,
-        frame_b: TRANSFORM_IDENTITY,
-        delta_center: VEC3_ZERO,
+        frame_a: frame,
+        frame_b: frame,
+        delta_center: zero,
         angular_mass: MAT3_ZERO,
     }
 }
 
 pub fn revolute_joint(max_motor_torque: f32, motor_speed: f32) -> RevoluteJoint {
+    let frame = TRANSFORM_IDENTITY;
+    let zero = VEC3_ZERO;
     RevoluteJoint {
-        linear_impulse: VEC3_ZERO,
+        linear_impulse: zero,
         perp_impulse: VEC2_ZERO,
         spring_impulse: 0.0,
         motor_impulse: 0.0,
@@ -100,12 +107,12 @@ pub fn revolute_joint(max_motor_torque: f32, motor_speed: f32) -> RevoluteJoint 
         upper_angle: 0.0,
         index_a: 0,
         index_b: 0,
-        frame_a: TRANSFORM_IDENTITY,
-        frame_b: TRANSFORM_IDENTITY,
-        rotation_axis_z: VEC3_ZERO,
-        perp_axis_x: VEC3_ZERO,
-        perp_axis_y: VEC3_ZERO,
-        delta_center: VEC3_ZERO,
+        frame_a: frame,
+        frame_b: frame,
+        rotation_axis_z: zero,
+        perp_axis_x: zero,
+        perp_axis_y: zero,
+        delta_center: zero,
         delta_angle: 0.0,
         axial_mass: 0.0,
         spring_softness: no_softness(),

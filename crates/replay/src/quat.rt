@@ -13,10 +13,10 @@ use math_functions::quat::inv_mul_quat;
 use math_functions::quat::mul_quat;
 use math_functions::quat::negate_quat;
 use math_functions::quat::rotate_vector;
+use math_functions::types::Quat;
 
-// The functions of two quaternions.
-fn agrees_of_two(f: u32, p: &[u8]) -> bool {
-    let a = quat(p, 0);
+// The functions of two quaternions, the first of which is a.
+fn agrees_of_two(f: u32, p: &[u8], a: Quat) -> bool {
     let b = quat(p, 4);
     match f {
         0x41 => answers_float(p, 8, dot_quat(a, b)),
@@ -28,12 +28,13 @@ fn agrees_of_two(f: u32, p: &[u8]) -> bool {
 }
 
 pub fn agrees(f: u32, p: &[u8]) -> bool {
+    let q = quat(p, 0);
     match f {
-        0x40 => answers_vec3(p, 7, rotate_vector(quat(p, 0), vec3(p, 4))),
-        0x44 => answers_quat(p, 4, conjugate(quat(p, 0))),
-        0x45 => answers_quat(p, 4, negate_quat(quat(p, 0))),
-        0x46 => answers_float(p, 4, get_twist_angle(quat(p, 0))),
-        0x48 => answers_float(p, 4, get_swing_angle(quat(p, 0))),
-        _ => agrees_of_two(f, p),
+        0x40 => answers_vec3(p, 7, rotate_vector(q, vec3(p, 4))),
+        0x44 => answers_quat(p, 4, conjugate(q)),
+        0x45 => answers_quat(p, 4, negate_quat(q)),
+        0x46 => answers_float(p, 4, get_twist_angle(q)),
+        0x48 => answers_float(p, 4, get_swing_angle(q)),
+        _ => agrees_of_two(f, p, q),
     }
 }

@@ -9,13 +9,15 @@ use math_functions::scalar::min_float;
 use sqrt::sqrt;
 
 pub fn agrees(f: u32, p: &[u8]) -> bool {
+    let x = float(p, 0);
+    let y = float(p, 1);
     match f {
-        0x10 => answers_float(p, 1, abs_float(float(p, 0))),
-        0x11 => answers_float(p, 2, min_float(float(p, 0), float(p, 1))),
-        0x12 => answers_float(p, 2, max_float(float(p, 0), float(p, 1))),
-        0x13 => answers_float(p, 3, clamp_float(float(p, 0), float(p, 1), float(p, 2))),
-        0x14 => answers_float(p, 2, atan2(float(p, 0), float(p, 1))),
-        0x15 => answers_float(p, 1, sqrt(float(p, 0))),
+        0x10 => answers_float(p, 1, abs_float(x)),
+        0x11 => answers_float(p, 2, min_float(x, y)),
+        0x12 => answers_float(p, 2, max_float(x, y)),
+        0x13 => answers_float(p, 3, clamp_float(x, y, float(p, 2))),
+        0x14 => answers_float(p, 2, atan2(x, y)),
+        0x15 => answers_float(p, 1, sqrt(x)),
         _ => false,
     }
 }
