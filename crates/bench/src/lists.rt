@@ -46,19 +46,14 @@ fn sum_scene(scene: Scene) -> u32 {
     sum_gates(joints, states)
 }
 
-// The scene that a run leaves.
-fn run_once(scene: Scene, list: &[u8]) -> Scene {
-    let run = run_list(scene, list);
-    run.scene
-}
-
 // The list again and again, each time on what the run before it left.
 pub fn run_lists(kind: u8, stages: u8, repeats: u64) -> u32 {
     let list = list_of(stages);
     let mut scene = wall(kind);
     let mut n = 0u64;
     while n < repeats {
-        scene = run_once(scene, &list);
+        let run = run_list(scene, &list);
+        scene = run.scene;
         n += 1;
     }
     sum_scene(scene)

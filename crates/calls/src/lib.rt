@@ -17,7 +17,6 @@ use joint::stage::warm_start_as_revolute;
 use joint::stage::warm_start_as_spherical;
 use joint::stage::warm_start_as_weld;
 use records::body::store_velocities;
-use records::joint::JointSim;
 use scene::Scene;
 
 pub mod places;
@@ -40,60 +39,45 @@ pub fn run_calls(scene: Scene, list: &[u8]) -> Scene
         let stage = list[2 * k + 1];
         let at = joint_place(slot);
         let use_bias = stage == 1;
-        let named = joints[at];
-        let places = places_of(named);
+        let places = places_of(joints[at]);
         let place_a = places.a;
         let place_b = places.b;
         let a = bodies[place_a];
         let b = bodies[place_b];
         let mut v = velocities_of(a, b);
-        // the joint is read again in each arm, so that only what its stage needs is loaded, and stored
-        // there by a solve, so that only what the solve changes is written
-        let warm: JointSim;
-        match stage_code(slot, named, stage) {
+        // the joint is read in each arm, so that only what its stage needs is loaded, and stored there by a
+        // solve, so that only what the solve changes is written
+        match stage_code(slot, joints[at], stage) {
             0 => {
-                warm = joints[at];
-                v = warm_start_as_revolute(warm, a, b);
+                v = warm_start_as_revolute(joints[at], a, b);
             }
             1 => {
-                warm = joints[at];
-                v = warm_start_as_spherical(warm, a, b);
+                v = warm_start_as_spherical(joints[at], a, b);
             }
             2 => {
-                warm = joints[at];
-                v = warm_start_as_weld(warm, a, b);
+                v = warm_start_as_weld(joints[at], a, b);
             }
             3 => {
-                let mut joint = joints[at];
-                let s = solve_as_revolute(joint, h, inv_h, a, b, use_bias);
-                joint = staged_joint(joint, s);
-                joints[at] = joint;
+                let s = solve_as_revolute(joints[at], h, inv_h, a, b, use_bias);
+                joints[at] = staged_joint(joints[at], s);
                 v = s.velocities;
             }
             4 => {
-                let mut joint = joints[at];
-                let s = solve_as_spherical(joint, h, inv_h, a, b, use_bias);
-                joint = staged_joint(joint, s);
-                joints[at] = joint;
+                let s = solve_as_spherical(joints[at], h, inv_h, a, b, use_bias);
+                joints[at] = staged_joint(joints[at], s);
                 v = s.velocities;
             }
             5 => {
-                let mut joint = joints[at];
-                let s = solve_as_weld(joint, h, inv_h, a, b, use_bias);
-                joint = staged_joint(joint, s);
-                joints[at] = joint;
+                let s = solve_as_weld(joints[at], h, inv_h, a, b, use_bias);
+                joints[at] = staged_joint(joints[at], s);
                 v = s.velocities;
             }
             _ => {}
         }
         // both are read again: A, so that it need not be kept through the stage, and B, since both
         // indices may name one body
-        let again_a = bodies[place_a];
-        let stored_a = store_velocities(again_a, v.v_a, v.w_a);
-        bodies[place_a] = stored_a;
-        let again_b = bodies[place_b];
-        let stored_b = store_velocities(again_b, v.v_b, v.w_b);
-        bodies[place_b] = stored_b;
+        bodies[place_a] = store_velocities(bodies[place_a], v.v_a, v.w_a);
+        bodies[place_b] = store_velocities(bodies[place_b], v.v_b, v.w_b);
         k += 1;
     }
     let left = without_identity(bodies);

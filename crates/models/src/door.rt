@@ -2,7 +2,7 @@
 // limits stop it on both sides.
 ghost use mathlib.Core.Path.{_≡_};
 ghost use lib.IntN.{pos};
-ghost use Rattle.joint.specs.Index.{caseOf};
+ghost use Rattle.records.specs.Joint.{caseOf};
 ghost use Rattle.models.specs.Model.{OfCase, Fixed, Awake, Moves};
 use crate::Model;
 use crate::NO_SOFTNESS;

@@ -2,7 +2,7 @@
 // sides and whose swing by a cone.
 ghost use mathlib.Core.Path.{_≡_};
 ghost use lib.IntN.{pos};
-ghost use Rattle.joint.specs.Index.{caseOf};
+ghost use Rattle.records.specs.Joint.{caseOf};
 ghost use Rattle.models.specs.Model.{OfCase, Awake, Moves};
 use crate::Model;
 use crate::NO_SOFTNESS;

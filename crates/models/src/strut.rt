@@ -1,7 +1,7 @@
 // A strut welded to its pier: a weld joint that gives a little, in place and in angle.
 ghost use mathlib.Core.Path.{_≡_};
 ghost use lib.IntN.{pos};
-ghost use Rattle.joint.specs.Index.{caseOf};
+ghost use Rattle.records.specs.Joint.{caseOf};
 ghost use Rattle.models.specs.Model.{OfCase, Fixed, Awake, Moves};
 use crate::Model;
 use crate::NO_SOFTNESS;
