@@ -6,19 +6,11 @@ use bench_wall::wall::body_before;
 use bench_wall::wall::unprepared_wall;
 use constraint::answer::Prepared;
 use constraint::answer::Solved;
-use constraint::velocity::Velocities;
 use records::body::BodyRecord;
 use records::body::BodyState;
 use records::body::IDENTITY_BODY_STATE;
-use records::body::store_velocities;
 use records::joint::JointSim;
 use solver::StepContext;
-
-// The states of a gate's two bodies.
-pub struct Pair {
-    pub a: BodyState,
-    pub b: BodyState,
-}
 
 // The gate of a call: the gates in turn.
 pub fn gate_of(call: u64) -> usize
@@ -66,14 +58,6 @@ pub fn wall_bodies() -> [BodyRecord; 33] {
         k += 1;
     }
     bodies
-}
-
-// The states with the velocities that a stage left.
-pub fn with_velocities(a: BodyState, b: BodyState, v: Velocities) -> Pair {
-    Pair {
-        a: store_velocities(a, v.v_a, v.w_a),
-        b: store_velocities(b, v.v_b, v.w_b),
-    }
 }
 
 pub fn prepared_joint(p: Prepared) -> JointSim {

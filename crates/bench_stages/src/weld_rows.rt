@@ -1,5 +1,4 @@
 // The stages of the weld joint by value, again and again: each call on what those before it left.
-use crate::gates::Pair;
 use crate::gates::gate_of;
 use crate::gates::prepared_joint;
 use crate::gates::solved_joint;
@@ -8,9 +7,10 @@ use crate::gates::unprepared_joints;
 use crate::gates::wall_bodies;
 use crate::gates::wall_context;
 use crate::gates::wall_states;
-use crate::gates::with_velocities;
 use crate::prepared::sum_prepared;
+use constraint::velocity::Velocities;
 use records::body::BodyState;
+use records::body::store_velocities;
 use records::joint::JointSim;
 use weld::prepare_weld_joint;
 use weld::solve_weld_joint;
@@ -36,10 +36,10 @@ pub fn prepares(calls: u64) -> u32 {
     sum_prepared(prepare_joints(calls))
 }
 
-// The states of a gate's two bodies after a warm start.
-fn warm_started(joint: JointSim, a: BodyState, b: BodyState) -> Pair {
+// The velocities of a gate's two bodies after a warm start.
+fn warm_started(joint: JointSim, a: BodyState, b: BodyState) -> Velocities {
     let s = warm_start_weld_joint(joint, a, b);
-    with_velocities(a, b, s.velocities)
+    s.velocities
 }
 
 // The joints come back as they were, so they are not stored.
@@ -49,11 +49,9 @@ pub fn warm_starts(calls: u64) -> u32 {
     let mut call = 0u64;
     while call < calls {
         let k = gate_of(call);
-        let pair = warm_started(joints[k], states[k], states[k + 1]);
-        let mut state = pair.b;
-        states[k + 1] = state;
-        state = pair.a;
-        states[k] = state;
+        let v = warm_started(joints[k], states[k], states[k + 1]);
+        states[k] = store_velocities(states[k], v.v_a, v.w_a);
+        states[k + 1] = store_velocities(states[k + 1], v.v_b, v.w_b);
         call += 1;
     }
     sum_gates(joints, states)
@@ -66,15 +64,11 @@ pub fn solves(use_bias: bool, calls: u64) -> u32 {
     let mut call = 0u64;
     while call < calls {
         let k = gate_of(call);
-        let a = states[k];
-        let b = states[k + 1];
-        let s = solve_weld_joint(joints[k], context, a, b, use_bias);
+        let s = solve_weld_joint(joints[k], context, states[k], states[k + 1], use_bias);
         joints[k] = solved_joint(s);
-        let pair = with_velocities(a, b, s.velocities);
-        let mut state = pair.a;
-        states[k] = state;
-        state = pair.b;
-        states[k + 1] = state;
+        let v = s.velocities;
+        states[k] = store_velocities(states[k], v.v_a, v.w_a);
+        states[k + 1] = store_velocities(states[k + 1], v.v_b, v.w_b);
         call += 1;
     }
     sum_gates(joints, states)

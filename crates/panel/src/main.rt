@@ -6,6 +6,7 @@ mod wall;
 
 use call_list::run_list;
 use libc::STDOUT_FILENO;
+use models::Model;
 use models::STEP;
 use models::door::door;
 use models::hip::hip;
@@ -43,29 +44,27 @@ fn weld() -> JointSim {
 
 fn joints() -> [JointSim; 32] {
     let mut joints = no_joints();
-    let mut joint = hinge();
-    joints[0] = joint;
-    joint = socket();
-    joints[1] = joint;
-    joint = weld();
-    joints[2] = joint;
+    joints[0] = hinge();
+    joints[1] = socket();
+    joints[2] = weld();
     joints
+}
+
+fn state_a(model: Model) -> BodyState {
+    model.state_a
+}
+
+fn state_b(model: Model) -> BodyState {
+    model.state_b
 }
 
 // The door's leaf is body 0, pelvis and thigh are 1 and 2, and the strut is 3.
 fn bodies() -> [BodyState; 32] {
-    let mut model = door(0);
     let mut bodies = [IDENTITY_BODY_STATE; 32];
-    let mut state = model.state_b;
-    bodies[0] = state;
-    model = hip(1, 2);
-    state = model.state_a;
-    bodies[1] = state;
-    state = model.state_b;
-    bodies[2] = state;
-    model = strut(3);
-    state = model.state_b;
-    bodies[3] = state;
+    bodies[0] = state_b(door(0));
+    bodies[1] = state_a(hip(1, 2));
+    bodies[2] = state_b(hip(1, 2));
+    bodies[3] = state_b(strut(3));
     bodies
 }
 
@@ -96,8 +95,7 @@ fn print_answer(number: u32, place: u32, still: bool) {
 fn print_bodies(bodies: [BodyState; 32]) {
     let mut k = 0usize;
     while k < 4 {
-        let state = bodies[k];
-        print_body(k, state);
+        print_body(k, bodies[k]);
         k += 1;
     }
 }
@@ -106,8 +104,7 @@ fn print_bodies(bodies: [BodyState; 32]) {
 fn print_joints(joints: [JointSim; 32]) {
     let mut k = 0usize;
     while k < 4 {
-        let joint = joints[k];
-        print_joint(k, joint);
+        print_joint(k, joints[k]);
         k += 1;
     }
 }

@@ -25,8 +25,7 @@ fn hinges() -> [JointSim; 32] {
     let mut joints = no_joints();
     let mut k = 0u8;
     while k < 4 {
-        let joint = hinge(k);
-        joints[k as usize] = joint;
+        joints[k as usize] = hinge(k);
         k += 1;
     }
     joints
@@ -45,8 +44,7 @@ fn leaves() -> [BodyState; 32] {
     let mut states = [IDENTITY_BODY_STATE; 32];
     let mut k = 0u8;
     while k < 4 {
-        let state = leaf(k);
-        states[k as usize] = state;
+        states[k as usize] = leaf(k);
         k += 1;
     }
     states

@@ -13,11 +13,11 @@ abbrev μ-loop : tie.MeasureT-loop
 loop-holds : tie.Need-loop-holds Inv-loop μ-loop
 loop-holds c = omega arith
 
-mul-state : tie.Need-mul-state Inv-loop μ-loop
-mul-state c = omega arith
+mul-print-body : tie.Need-mul-print-body Inv-loop μ-loop
+mul-print-body c = omega arith
 
-array-copy-out-state : tie.Need-array-copy-out-state Inv-loop μ-loop
-array-copy-out-state c = omega arith
+array-copy-out-print-body : tie.Need-array-copy-out-print-body Inv-loop μ-loop
+array-copy-out-print-body c = omega arith
 
 print-body-requires : tie.Need-print-body-requires Inv-loop μ-loop
 print-body-requires c κs = tt
@@ -41,8 +41,8 @@ print-bodies-spec =
     Inv-loop
     μ-loop
     loop-holds
-    mul-state
-    array-copy-out-state
+    mul-print-body
+    array-copy-out-print-body
     print-body-requires
     add-k
     loop-less

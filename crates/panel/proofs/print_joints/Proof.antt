@@ -13,11 +13,11 @@ abbrev μ-loop : tie.MeasureT-loop
 loop-holds : tie.Need-loop-holds Inv-loop μ-loop
 loop-holds c = omega arith
 
-mul-joint : tie.Need-mul-joint Inv-loop μ-loop
-mul-joint c = omega arith
+mul-print-joint : tie.Need-mul-print-joint Inv-loop μ-loop
+mul-print-joint c = omega arith
 
-array-copy-out-joint : tie.Need-array-copy-out-joint Inv-loop μ-loop
-array-copy-out-joint c = omega arith
+array-copy-out-print-joint : tie.Need-array-copy-out-print-joint Inv-loop μ-loop
+array-copy-out-print-joint c = omega arith
 
 print-joint-requires : tie.Need-print-joint-requires Inv-loop μ-loop
 print-joint-requires c κs = tt
@@ -41,8 +41,8 @@ print-joints-spec =
     Inv-loop
     μ-loop
     loop-holds
-    mul-joint
-    array-copy-out-joint
+    mul-print-joint
+    array-copy-out-print-joint
     print-joint-requires
     add-k
     loop-less
