@@ -20,8 +20,8 @@ use Rattle.scene.specs.Calls.{call, calls}
 use Rattle.scene.specs.Plain.{jointCause, callCause, cause, verdictOf, firstCause, earlyCause, verdict, Accepted, runCalls, sameVelocities, sameBelow, isStill, done, refused, plainRun}
 use Rattle.scene.specs.Accepted.{run-accepted, run-refused}
 use Rattle.call_list.specs.Causes.{jointCauses}
-use Rattle.calls.specs.Places.{jointPlace}
-use Rattle.calls.proofs.Elements.{getD-any, joint-place-in, fill-more}
+use Rattle.places.specs.Places.{jointPlace}
+use Rattle.places.proofs.Elements.{getD-any, joint-place-in, fill-more}
 use Rattle.calls.proofs.Lists.{calls-here, calls-end}
 
 -- ---- the tests before the calls

@@ -1,2 +1,2 @@
-pub mod Elements
+mod Turn
 pub mod Lists

@@ -12,8 +12,8 @@ use Rattle.records.specs.Body.{identityBodyState}
 use Rattle.scene.specs.declared.Scene.{Scene}
 use Rattle.scene.specs.Calls.{call, calls}
 use Rattle.scene.specs.Plain.{runCalls}
-use Rattle.calls.specs.Places.{withIdentity}
-use Rattle.calls.proofs.Elements.{remade, Turned}
+use Rattle.places.specs.Places.{withIdentity}
+use Rattle.calls.proofs.Turn.{remade, Turned}
 
 -- ---- the call at a byte
 

@@ -3,11 +3,6 @@
 ghost use mathlib.Core.Path.{_≡_};
 ghost use Rattle.scene.specs.Calls.{calls};
 ghost use Rattle.scene.specs.Plain.{runCalls};
-use crate::places::joint_place;
-use crate::places::places_of;
-use crate::places::stage_code;
-use crate::places::with_identity;
-use crate::places::without_identity;
 use constraint::velocity::velocities_of;
 use joint::stage::solve_as_revolute;
 use joint::stage::solve_as_spherical;
@@ -16,10 +11,13 @@ use joint::stage::staged_joint;
 use joint::stage::warm_start_as_revolute;
 use joint::stage::warm_start_as_spherical;
 use joint::stage::warm_start_as_weld;
+use places::joint_place;
+use places::places_of;
+use places::stage_code;
+use places::with_identity;
+use places::without_identity;
 use records::body::store_velocities;
 use scene::Scene;
-
-pub mod places;
 
 // The calls in order, each on what the one before it left. Bodies and joints are read and stored one
 // element at a time; index -1 leads to the last place of `bodies`, which holds the identity state.

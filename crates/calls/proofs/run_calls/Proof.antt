@@ -5,7 +5,8 @@ use Prim.Native.Nat.{ℕ, _+_, _-_, _%_, _≤_, _<_}
 use native.Mathlib.Omega.{arith}
 use lib.ListN.{length}
 use borrow.Author.Needs.{needs}
-use Rattle.calls.proofs.Elements.{bodies-long, joints-long, worked-warm, worked-solve, worked-none, turn-is}
+use Rattle.places.proofs.Elements.{bodies-long, joints-long}
+use Rattle.calls.proofs.Turn.{worked-warm, worked-solve, worked-none, turn-is}
 use Rattle.calls.proofs.Lists.{Midst, midst-start, midst-more, midst-done}
 use Rattle.calls.proofs.run_calls.Statement.{statement}
 use Rattle.calls.proofs.run_calls.Tie as tie

@@ -6,7 +6,7 @@ use lib.ListN.{length, drop}
 use borrow.Author.Needs.{needs}
 use Rattle.scene.specs.Calls.{calls}
 use Rattle.scene.specs.Plain.{firstCause}
-use Rattle.calls.proofs.Elements.{joints-long}
+use Rattle.places.proofs.Elements.{joints-long}
 use Rattle.call_list.proofs.Lists.{early-none, verdict-early, verdict-late, cause-is, check-more, check-stop, check-end}
 use Rattle.call_list.proofs.check.check_list.Statement.{statement}
 use Rattle.call_list.proofs.check.check_list.Tie as tie

@@ -6,7 +6,7 @@ use native.Mathlib.Omega.{arith}
 use lib.ListN.{take, drop}
 use borrow.Author.Needs.{needs}
 use Rattle.call_list.specs.Causes.{jointCauses}
-use Rattle.calls.proofs.Elements.{joints-long}
+use Rattle.places.proofs.Elements.{joints-long}
 use Rattle.call_list.proofs.Lists.{causes-more, causes-all}
 use Rattle.call_list.proofs.check.joint_causes.Statement.{statement}
 use Rattle.call_list.proofs.check.joint_causes.Tie as tie

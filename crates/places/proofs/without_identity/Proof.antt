@@ -1,4 +1,4 @@
--- `places::without_identity` equals its definition: the places below `k` are filled. Assumes nothing.
+-- `without_identity` equals its definition: the places below `k` are filled. Assumes nothing.
 use mathlib.Core.Path.{_≡_, refl}
 use mathlib.Core.List.{_++_}
 use Prim.Native.Nat.{_+_, _-_, _≤_, _<_}
@@ -6,9 +6,9 @@ use native.Mathlib.Omega.{arith}
 use lib.ListN.{length, take, drop, replicate, length-replicate}
 use borrow.Author.Needs.{needs}
 use Rattle.records.specs.Body.{identityBodyState}
-use Rattle.calls.proofs.Elements.{fill-more, fill-32}
-use Rattle.calls.proofs.places.without_identity.Statement.{statement}
-use Rattle.calls.proofs.places.without_identity.Tie as tie
+use Rattle.places.proofs.Elements.{fill-more, fill-32}
+use Rattle.places.proofs.without_identity.Statement.{statement}
+use Rattle.places.proofs.without_identity.Tie as tie
 
 abbrev Inv-loop : tie.InvT-loop
 Inv-loop bodies out₀ k₀ out k = (k ≤ 32) × (out ≡ take k bodies ++ drop k out₀)

@@ -1,9 +1,9 @@
--- `places::joint_place` equals its definition. Assumes nothing.
+-- `joint_place` equals its definition. Assumes nothing.
 use native.Mathlib.Omega.{arith}
 use borrow.Author.Tests.{lt-ltb, le-ltb}
-use Rattle.calls.specs.Places.{jointPlace}
-use Rattle.calls.proofs.places.joint_place.Statement.{statement}
-use Rattle.calls.proofs.places.joint_place.Tie as tie
+use Rattle.places.specs.Places.{jointPlace}
+use Rattle.places.proofs.joint_place.Statement.{statement}
+use Rattle.places.proofs.joint_place.Tie as tie
 
 returns : tie.Need-returns
 unfolding jointPlace

@@ -2,7 +2,7 @@
 ghost use mathlib.Core.Path.{_≡_};
 ghost use Prim.Native.Nat.{_<_};
 ghost use lib.ListN.{take};
-ghost use Rattle.calls.specs.Places as D;
+ghost use Rattle.places.specs.Places as D;
 use joint::index::indices_of;
 use records::body::BodyState;
 use records::body::IDENTITY_BODY_STATE;

@@ -1,131 +1,34 @@
--- Laws on single elements of the arrays: signed indices, a body's place, and a turn of the run's loop. Assumes nothing.
+-- A turn of the run's loop: what the match leaves, and that it is one call of the plain run. Assumes nothing.
 use mathlib.Core.Path.{_≡_, refl, sym, ap, _∙_}
 use mathlib.Core.Logic.{_≢_}
 use mathlib.Core.Bool.{Bool, true, false, cond}
-use mathlib.Core.List.{List, [], _∷_, _++_, map, append-assoc, append-nil}
-use Prim.Native.Nat.{ℕ, zero, suc, _+_, _≤_, _<_, min}
-use native.Mathlib.Nat.{le-of-suc-le-suc}
-use native.Mathlib.Numerals.{add-one}
+use mathlib.Core.List.{List}
+use Prim.Native.Nat.{ℕ, _+_, _≤_, _<_}
 use native.Mathlib.Omega.{arith}
 use lib.Dec.{eqb, ltb}
 use lib.Ieee.{Float}
-use lib.IntN.{ℤ, pos, negsuc}
-use lib.ListN.{length, getD, set, take, drop, replicate, length-map, length-set, length-take, List·getD-append, List·getD-eq-default}
-use lib.Seq.{set-getD, set-out, set-at, set-append-left, take-suc, take-all, drop-cons, getD-append-add}
-use mir.Syntax.{w32}
-use mir.Val.{SFits, toZ, ofZ}
-use mir.ValLaws.{toZ-ofZ}
-use borrow.Author.Tests.{eq-eqb, ne-eqb, eqb-true, eqb-false, lt-ltb, ltb-true, ltb-false}
-use Rattle.records.proofs.joint.JointSim as JointField
-use Rattle.records.proofs.body.BodyState as BodyField
-use Rattle.math_functions.specs.declared.types.Vec3.{Vec3}
+use lib.ListN.{length, getD, set, List·getD-eq-default}
+use lib.Seq.{set-getD, set-out}
+use borrow.Author.Tests.{eq-eqb, ne-eqb, eqb-true, eqb-false, ltb-true, ltb-false}
 use Rattle.records.specs.declared.body.BodyState.{BodyState}
 use Rattle.records.specs.declared.joint.JointUnion.{JointUnion}
 use Rattle.records.specs.declared.joint.JointUnion.the-variants.{Revolute, Spherical, Weld, Other}
 use Rattle.records.specs.declared.joint.JointBase.{JointBase}
 use Rattle.records.specs.declared.joint.JointSim.{JointSim}
-use Rattle.records.specs.Body.{isDynamic, withVelocities, storeVelocities, identityBodyState}
+use Rattle.records.specs.Body.{isDynamic, withVelocities, storeVelocities}
+use Rattle.records.specs.Joint.{caseOf, unusedJoint}
 use Rattle.constraint.specs.declared.velocity.Velocities.{Velocities}
 use Rattle.constraint.specs.Velocity.{velocitiesOf}
 use Rattle.constraint.specs.Answer.{jointSim}
 use Rattle.joint.specs.declared.stage.Staged.{Staged}
 use Rattle.joint.specs.Stage.{staged, warmStartJoint, solveJoint, stageJoint, warmStartAs, solveAs}
-use Rattle.scene.specs.declared.Scene.{Scene}
-use Rattle.records.specs.Joint.{caseOf, unusedJoint}
 use Rattle.joint.specs.Index.{indexA, indexB}
+use Rattle.scene.specs.declared.Scene.{Scene}
 use Rattle.scene.specs.Scene.{stateAt, store}
 use Rattle.scene.specs.Calls.{call}
 use Rattle.scene.specs.Plain.{storeBoth, step}
-use Rattle.calls.specs.Places.{bodyPlace, codeIn, stageCode, jointPlace, withIdentity}
-
--- in range the value past the end does not matter
-pub getD-any {ℓ} : {A : Type ℓ} (l : List A) (i : ℕ) (d e : A) → i < length l → getD l i d ≡ getD l i e
-getD-any [] i d e h = absurd (omega arith)
-getD-any (a ∷ l) zero d e h = refl
-getD-any (a ∷ l) (suc i) d e h = getD-any l i d e (le-of-suc-le-suc h)
-
--- the arrays' lengths, as the ownership of a scene tells them
-pub joints-long : (s : Scene) → length (map (JointField.the-field .into) (s .joints)) ≡ 32 → length (s .joints) ≡ 32
-joints-long s e = sym (length-map (s .joints) (JointField.the-field .into)) ∙ e
-
-pub bodies-long : (s : Scene) → length (map (BodyField.the-field .into) (s .bodies)) ≡ 32 → length (s .bodies) ≡ 32
-bodies-long s e = sym (length-map (s .bodies) (BodyField.the-field .into)) ∙ e
-
--- ---- signed numbers, which the code has by their bits
-
-pub place-is : (z y : ℤ) (r : ℕ) → SFits w32 z → z ≡ y → r ≡ bodyPlace (toZ w32 (ofZ w32 z)) → r ≡ bodyPlace y
-place-is z y r f e g = g ∙ ap bodyPlace (toZ-ofZ w32 z f ∙ e)
-
--- ---- places
-
-pub joint-place-in : (slot : ℕ) → slot < 32 → jointPlace slot ≡ slot
-unfolding jointPlace
-joint-place-in slot h = rw (lt-ltb slot 32 h)
-
-last : (us : List BodyState) → length us ≡ 32 → (d : BodyState) → getD (withIdentity us) 32 d ≡ identityBodyState
-unfolding withIdentity
-last us long d =
-    let e : 32 ≡ length us + 0 = omega arith in
-    ap (λ k. getD (us ++ (identityBodyState ∷ [])) k d) e ∙ getD-append-add us (identityBodyState ∷ []) 0 d
-
-inside : (us : List BodyState) (n : ℕ) (d : BodyState) → length us ≡ 32 → n < 32 → getD (withIdentity us) n d ≡ getD us n identityBodyState
-unfolding withIdentity
-inside us n d long h = List·getD-append us (identityBodyState ∷ []) d n (rw long h) ∙ getD-any us n d identityBodyState (rw long h)
-
--- what stands at an index's place is the state at the index
-pub seen-is : (us : List BodyState) → length us ≡ 32 → (z : ℤ) (d : BodyState) → getD (withIdentity us) (bodyPlace z) d ≡ stateAt us z
-seen-is us long (negsuc n) d = last us long d
-seen-is us long (pos n) d = by (ltb n 32) refl
-  where
-    by : (b : Bool) → ltb n 32 ≡ b → getD (withIdentity us) (cond b n 32) d ≡ getD us n identityBodyState
-    by true e = inside us n d long (ltb-true n 32 e)
-    by false e =
-        let h : 32 ≤ n = ltb-false n 32 e in
-        last us long d ∙ sym (List·getD-eq-default us identityBodyState {n = n} (omega arith))
-
-identity-stays : (v w : Vec3) → storeVelocities identityBodyState v w ≡ identityBodyState
-unfolding storeVelocities isDynamic
-identity-stays v w = refl
-
--- a store at the identity state's place changes nothing
-stays : (us : List BodyState) → length us ≡ 32 → (y d : BodyState) (v w : Vec3) → y ≡ storeVelocities (getD (withIdentity us) 32 d) v w → set (withIdentity us) 32 y ≡ withIdentity us
-unfolding withIdentity
-stays us long y d v w e =
-    let g : y ≡ identityBodyState = e ∙ ap (λ x. storeVelocities x v w) (last us long d) ∙ identity-stays v w in
-    rw g (set-at us identityBodyState [] identityBodyState 32 long)
-
-stored : (us : List BodyState) (n : ℕ) → length us ≡ 32 → n < 32 → (y d : BodyState) (v w : Vec3) → y ≡ storeVelocities (getD (withIdentity us) n d) v w
-    → set (withIdentity us) n y ≡ withIdentity (store us (pos n) v w)
-unfolding withIdentity store
-stored us n long h y d v w e =
-    let g : y ≡ storeVelocities (getD us n identityBodyState) v w = e ∙ ap (λ x. storeVelocities x v w) (inside us n d long h) in
-    rw g (set-append-left us (identityBodyState ∷ []) n _ (rw long h))
-
-store-out : (us : List BodyState) (n : ℕ) (v w : Vec3) → length us ≡ 32 → 32 ≤ n → store us (pos n) v w ≡ us
-unfolding store
-store-out us n v w long h = set-out us n _ (omega arith)
-
-store-none : (us : List BodyState) (n : ℕ) (v w : Vec3) → store us (negsuc n) v w ≡ us
-unfolding store
-store-none us n v w = refl
-
--- a store at an index's place is a store at the index
-pub kept-is : (us : List BodyState) → length us ≡ 32 → (z : ℤ) (y d : BodyState) (v w : Vec3) → y ≡ storeVelocities (getD (withIdentity us) (bodyPlace z) d) v w
-    → set (withIdentity us) (bodyPlace z) y ≡ withIdentity (store us z v w)
-kept-is us long (negsuc n) y d v w e = stays us long y d v w e ∙ ap withIdentity (sym (store-none us n v w))
-kept-is us long (pos n) y d v w e = by (ltb n 32) refl e
-  where
-    by : (b : Bool) → ltb n 32 ≡ b → y ≡ storeVelocities (getD (withIdentity us) (cond b n 32) d) v w → set (withIdentity us) (cond b n 32) y ≡ withIdentity (store us (pos n) v w)
-    by true t e = stored us n long (ltb-true n 32 t) y d v w e
-    by false t e = stays us long y d v w e ∙ ap withIdentity (sym (store-out us n v w long (ltb-false n 32 t)))
-
--- a store keeps the count
-pub store-long : (us : List BodyState) (z : ℤ) (v w : Vec3) → length us ≡ 32 → length (store us z v w) ≡ 32
-unfolding store
-store-long us (pos n) v w h = length-set us n _ ∙ h
-store-long us (negsuc n) v w h = h
-
--- ---- a turn of the run's loop
+use Rattle.places.specs.Places.{bodyPlace, codeIn, stageCode, jointPlace, withIdentity}
+use Rattle.places.proofs.Elements.{getD-any, joint-place-in, seen-is, kept-is, store-long}
 
 -- a scene with other bodies and joints
 abbrev pub remade : Scene → List BodyState → List JointSim → Scene
@@ -338,22 +241,3 @@ module _ (s : Scene) (js : List JointSim) (us ws : List BodyState) (slot stage a
           → Turned s js us (set (set ws pa na) pb nb) slot stage at (jointSim (named .base) (r .«union_»))
       by true f er = worked f ha hpa hpb er ka' kb'
       by false f er = idle f er ka' kb'
-
--- ---- filling an array from another
-
-min-low : (k n : ℕ) → k < n → min k n ≡ k
-min-low k n h = omega arith
-
-pub fill-more {ℓ} : {A : Type ℓ} (bs o w : List A) (k : ℕ) (d : A) → w ≡ take k bs ++ drop k o → k < length bs → k < length o → set w k (getD bs k d) ≡ take (k + 1) bs ++ drop (k + 1) o
-fill-more bs o w k d e h g =
-    let n : length (take k bs) ≡ k = length-take k bs ∙ min-low k (length bs) h in
-    rw (e, add-one k, drop-cons o k d g, take-suc bs k d h) (set-at (take k bs) (getD o k d) (drop (suc k) o) (getD bs k d) k n ∙ sym (append-assoc (take k bs) (getD bs k d ∷ []) (drop (suc k) o)))
-
-pub fill-33 : (bs w : List BodyState) (k : ℕ) → length bs ≡ 32 → k ≡ 32 → w ≡ take k bs ++ drop k (replicate 33 identityBodyState) → w ≡ withIdentity bs
-unfolding withIdentity
-fill-33 bs w k long e q =
-    let n : length bs ≤ 32 = omega arith in
-    q ∙ rw e (ap (λ l. l ++ (identityBodyState ∷ [])) (take-all 32 bs n))
-
-pub fill-32 : (bs w : List BodyState) (k : ℕ) → k ≡ 32 → w ≡ take k bs ++ drop k (replicate 32 identityBodyState) → w ≡ take 32 bs
-fill-32 bs w k e q = q ∙ rw e (append-nil (take 32 bs))

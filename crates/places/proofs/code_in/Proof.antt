@@ -1,8 +1,8 @@
--- `places::code_in` equals its definition. Assumes nothing.
+-- `code_in` equals its definition. Assumes nothing.
 use borrow.Author.Tests.{lt-ltb, le-ltb}
-use Rattle.calls.specs.Places.{codeIn}
-use Rattle.calls.proofs.places.code_in.Statement.{statement}
-use Rattle.calls.proofs.places.code_in.Tie as tie
+use Rattle.places.specs.Places.{codeIn}
+use Rattle.places.proofs.code_in.Statement.{statement}
+use Rattle.places.proofs.code_in.Tie as tie
 
 returns : tie.Need-returns
 unfolding codeIn

@@ -1,8 +1,8 @@
--- `places::stage_code` equals its definition. Assumes nothing.
+-- `stage_code` equals its definition. Assumes nothing.
 use borrow.Author.Needs.{needs}
-use Rattle.calls.specs.Places.{stageCode}
-use Rattle.calls.proofs.places.stage_code.Statement.{statement}
-use Rattle.calls.proofs.places.stage_code.Tie as tie
+use Rattle.places.specs.Places.{stageCode}
+use Rattle.places.proofs.stage_code.Statement.{statement}
+use Rattle.places.proofs.stage_code.Tie as tie
 
 returns : tie.Need-returns
 unfolding stageCode

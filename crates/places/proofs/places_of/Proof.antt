@@ -1,11 +1,11 @@
--- `places::places_of` equals its definition. Assumes nothing.
+-- `places_of` equals its definition. Assumes nothing.
 use mathlib.Core.Path.{_≡_, ap}
 use mir.Syntax.{w32}
 use mir.Val.{SFits}
 use borrow.Author.Needs.{needs}
-use Rattle.calls.proofs.Elements.{place-is}
-use Rattle.calls.proofs.places.places_of.Statement.{statement}
-use Rattle.calls.proofs.places.places_of.Tie as tie
+use Rattle.places.proofs.Elements.{place-is}
+use Rattle.places.proofs.places_of.Statement.{statement}
+use Rattle.places.proofs.places_of.Tie as tie
 
 indices-of-requires : tie.Need-indices-of-requires
 indices-of-requires c κs = tt

@@ -9,7 +9,7 @@ use Rattle.records.specs.declared.joint.JointUnion.{JointUnion}
 use Rattle.records.specs.declared.joint.JointUnion.the-variants.{Revolute, Spherical, Weld, Other}
 use Rattle.records.specs.Body.{identityBodyState}
 use Rattle.joint.specs.Index.{indexA, indexB}
-use Rattle.calls.specs.declared.places.Places.{Places}
+use Rattle.places.specs.declared.Places.{Places}
 
 -- a place among 32 bodies, or that of the identity state after them
 abbrev pub bodyPlace : ℤ → ℕ

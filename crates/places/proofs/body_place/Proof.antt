@@ -1,4 +1,4 @@
--- `places::body_place` equals its definition. Assumes nothing.
+-- `body_place` equals its definition. Assumes nothing.
 use mathlib.Core.Path.{_≡_, refl}
 use mathlib.Core.Bool.{Bool, true, false, true≢false}
 use Prim.Native.Nat.{ℕ, _<_}
@@ -10,10 +10,10 @@ use mir.Syntax.{w32, w64}
 use mir.Val.{Fits, SFits, toZ, ofZ}
 use mir.ValLaws.{toZ-ofZ}
 use borrow.Author.Tests.{lt-ltb, le-ltb, ltb-true, ltb-false}
-use Rattle.calls.specs.Places.{bodyPlace}
+use Rattle.places.specs.Places.{bodyPlace}
 use Rattle.joint.proofs.Signs.{less-back}
-use Rattle.calls.proofs.places.body_place.Statement.{statement}
-use Rattle.calls.proofs.places.body_place.Tie as tie
+use Rattle.places.proofs.body_place.Statement.{statement}
+use Rattle.places.proofs.body_place.Tie as tie
 
 low : (z : ℤ) → ltZ z (pos 0) ≡ true → 32 ≡ bodyPlace z
 low (pos n) h = absurd (omega (arith, ltb-true n 0 h))
