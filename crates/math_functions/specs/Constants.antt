@@ -71,10 +71,10 @@ pub halfPi-decimal : halfPi ≡ decimal 157079637 8
 unfolding Ieee.ofBits Ieee.round
 halfPi-decimal = refl
 
--- atan2's own literal for a half turn is the same float as PI
 pub atanPi-decimal : atanPi ≡ decimal 314159274 8
 unfolding Ieee.ofBits Ieee.round
 atanPi-decimal = refl
 
+-- atan2's own literal for a half turn is the same float as PI
 pub atanPi-is-pi : atanPi ≡ pi
 atanPi-is-pi = refl

@@ -1,4 +1,4 @@
--- The words of the contracts of the functions that `sqrt` is made of. Assumes nothing.
+-- The words of the contracts of the functions that `sqrt` is made of. Definitions only. Assumes nothing.
 use mathlib.Core.Path.{_≡_}
 use Prim.Native.Nat.{ℕ, _+_, _*_, _^_, _≤_, _<_}
 use lib.Ieee.{binary32, ofBits}
