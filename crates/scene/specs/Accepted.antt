@@ -13,6 +13,7 @@ use Rattle.records.specs.declared.joint.JointUnion.{JointUnion}
 use Rattle.records.specs.declared.joint.JointUnion.the-variants.{Revolute, Spherical, Weld, Other}
 use Rattle.scene.specs.declared.Scene.{Scene}
 use Rattle.scene.specs.declared.Verdict.{Verdict}
+use Rattle.scene.specs.declared.Run.{Run}
 use Rattle.joint.specs.Index.{indexA, indexB, badIndex}
 use Rattle.records.specs.Joint.{caseOf, isOther}
 use Rattle.scene.specs.Scene.{jointAt}
@@ -33,26 +34,18 @@ says-or true b P Q p q = inl p
 says-or false true P Q p q = inr q
 says-or false false P Q p q = ⊎-elim p q
 
+pub says-of : (b : Bool) {P : Type 0} → (b ≡ true → P) → (b ≡ false → ¬ P) → Says b P
+says-of true holds fails = holds refl
+says-of false holds fails = fails refl
+
 says-lt : (m n : ℕ) → Says (ltb m n) (m < n)
-says-lt m n = by (ltb m n) refl
-  where
-    by : (b : Bool) → ltb m n ≡ b → Says b (m < n)
-    by true e = ltb-true m n e
-    by false e = λ h. omega (arith, ltb-false m n e)
+says-lt m n = says-of (ltb m n) (ltb-true m n) (λ e h. omega (arith, ltb-false m n e))
 
 says-le : (m n : ℕ) → Says (leb m n) (m ≤ n)
-says-le m n = by (leb m n) refl
-  where
-    by : (b : Bool) → leb m n ≡ b → Says b (m ≤ n)
-    by true e = leb-true m n e
-    by false e = λ h. omega (arith, leb-false m n e)
+says-le m n = says-of (leb m n) (leb-true m n) (λ e h. omega (arith, leb-false m n e))
 
-pub says-eq : (m n : ℕ) → Says (eqb m n) (m ≡ n)
-says-eq m n = by (eqb m n) refl
-  where
-    by : (b : Bool) → eqb m n ≡ b → Says b (m ≡ n)
-    by true e = eqb-true m n e
-    by false e = eqb-false m n e
+says-eq : (m n : ℕ) → Says (eqb m n) (m ≡ n)
+says-eq m n = says-of (eqb m n) (eqb-true m n) (eqb-false m n)
 
 other-not : {u : JointUnion} → caseOf u ≢ 3 → u ≢ Other
 other-not ne e = ne (ap caseOf e)
@@ -174,29 +167,27 @@ answers-none ts v a = (λ e. a .none e .0, λ h. by (eqb (v .number) 0) refl h)
     by true e h = eqb-true (v .number) 0 e
     by false e h = absurd (none-first ts (v .number) (v .place) h (a .found (eqb-false (v .number) 0 e)))
 
--- ---- a run's number and place are its verdict's
+-- ---- a run is worked, or refused
+
+pub by-verdict : (s : Scene) (l : List ℕ) (P : Run → Type 0) → (Accepted s l → P (done s (runCalls (calls l) s))) → (verdict s l .number ≢ 0 → P (refused (verdict s l) s)) → P (plainRun s l)
+unfolding plainRun
+by-verdict s l P worked stopped = by (eqb (verdict s l .number) 0) refl
+  where
+    by : (b : Bool) → eqb (verdict s l .number) 0 ≡ b → P (cond b (done s (runCalls (calls l) s)) (refused (verdict s l) s))
+    by true e = worked (eqb-true (verdict s l .number) 0 e)
+    by false e = stopped (eqb-false (verdict s l .number) 0 e)
 
 pub run-accepted : (s : Scene) (l : List ℕ) → Accepted s l → plainRun s l ≡ done s (runCalls (calls l) s)
 unfolding plainRun
 run-accepted s l e = rw e
 
 pub run-refused : (s : Scene) (l : List ℕ) → verdict s l .number ≢ 0 → plainRun s l ≡ refused (verdict s l) s
-unfolding plainRun
-run-refused s l ne = by (eqb (verdict s l .number) 0) refl
-  where
-    by : (b : Bool) → eqb (verdict s l .number) 0 ≡ b → cond b (done s (runCalls (calls l) s)) (refused (verdict s l) s) ≡ refused (verdict s l) s
-    by true e = absurd (ne (eqb-true (verdict s l .number) 0 e))
-    by false e = refl
+run-refused s l ne = by-verdict s l (λ r. r ≡ refused (verdict s l) s) (λ e. absurd (ne e)) (λ n. refl)
 
+-- its number and place are its verdict's
 pub run-verdict : (s : Scene) (l : List ℕ) → (plainRun s l .number ≡ verdict s l .number) × (plainRun s l .place ≡ verdict s l .place)
-run-verdict s l = by (eqb (verdict s l .number) 0) refl
-  where
-    by : (b : Bool) → eqb (verdict s l .number) 0 ≡ b → (plainRun s l .number ≡ verdict s l .number) × (plainRun s l .place ≡ verdict s l .place)
-    by true e =
-        let z = eqb-true (verdict s l .number) 0 e in
-        let r = run-accepted s l z in
-        (ap (λ x. x .number) r ∙ sym z, ap (λ x. x .place) r ∙ sym (verdict-answers s l .none z .1))
-    by false e = let r = run-refused s l (eqb-false (verdict s l .number) 0 e) in (ap (λ x. x .number) r, ap (λ x. x .place) r)
+run-verdict s l =
+    by-verdict s l (λ r. (r .number ≡ verdict s l .number) × (r .place ≡ verdict s l .place)) (λ e. (sym e, sym (verdict-answers s l .none e .1))) (λ ne. (refl, refl))
 
 -- ---- an accepted list's calls
 

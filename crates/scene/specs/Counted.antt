@@ -1,9 +1,10 @@
 -- The theorem on order with its hypotheses at the counted slots alone: an accepted list has no call of another slot. Assumes nothing.
 use mathlib.Core.Path.{_≡_, refl, sym, ap, _∙_}
 use mathlib.Core.Logic.{_≢_}
-use mathlib.Core.Bool.{Bool, true, false, _||_}
+use mathlib.Core.Bool.{Bool, true, false, or-false}
 use mathlib.Core.List.{List, [], _∷_}
 use Prim.Native.Nat.{ℕ, _+_, _≤_, _<_}
+use native.Mathlib.Nat.{lt-of-not-le}
 use native.Mathlib.Omega.{arith}
 use lib.Dec.{eqb, leb}
 use borrow.Author.Tests.{leb-false, leb-true, ne-eqb}
@@ -19,11 +20,7 @@ use Rattle.scene.specs.Order.{same-answer}
 
 slots-of : (s : Scene) (place : ℕ) (l : List Call) → NoCause (callTests s place l) → Every (λ c. c .slot < s .«joint_count») l
 slots-of s place [] h = tt
-slots-of s place (c ∷ l) h = (by (leb (s .«joint_count») (c .slot)) refl, slots-of s (place + 1) l (h .1 .1 .1 .1 .1))
-  where
-    by : (b : Bool) → leb (s .«joint_count») (c .slot) ≡ b → c .slot < s .«joint_count»
-    by true e = absurd (h .0 (leb-true (s .«joint_count») (c .slot) e))
-    by false e = leb-false (s .«joint_count») (c .slot) e
+slots-of s place (c ∷ l) h = (lt-of-not-le (h .0), slots-of s (place + 1) l (h .1 .1 .1 .1 .1))
 
 -- a slot that is not counted is not listed
 pub accepted-slots : (s : Scene) (l : List ℕ) → Accepted s l → Every (λ c. c .slot < s .«joint_count») (calls l)
@@ -33,17 +30,13 @@ none-of : (n j : ℕ) (l : List Call) → n ≤ j → Every (λ c. c .slot < n) 
 none-of n j [] h e = refl
 none-of n j (c ∷ l) h e = rw (ne-eqb (c .slot) j (λ p. omega (arith, e .0))) (none-of n j l h (e .1))
 
-or-none : (b : Bool) → b || false ≡ b
-or-none true = refl
-or-none false = refl
-
 left-none : (n j k : ℕ) (l : List Call) → n ≤ j → Every (λ c. c .slot < n) l → onlyOfTwo j k l ≡ onlyOf k l
 left-none n j k [] h e = refl
 left-none n j k (c ∷ l) h e = rw (ne-eqb (c .slot) j (λ p. omega (arith, e .0))) (ap (keepIf (eqb (c .slot) k) c) (left-none n j k l h (e .1)))
 
 right-none : (n j k : ℕ) (l : List Call) → n ≤ k → Every (λ c. c .slot < n) l → onlyOfTwo j k l ≡ onlyOf j l
 right-none n j k [] h e = refl
-right-none n j k (c ∷ l) h e = rw (ne-eqb (c .slot) k (λ p. omega (arith, e .0)), or-none (eqb (c .slot) j)) (ap (keepIf (eqb (c .slot) j) c) (right-none n j k l h (e .1)))
+right-none n j k (c ∷ l) h e = rw (ne-eqb (c .slot) k (λ p. omega (arith, e .0)), or-false (eqb (c .slot) j)) (ap (keepIf (eqb (c .slot) j) c) (right-none n j k l h (e .1)))
 
 module _ (s : Scene) (l₁ l₂ : List ℕ) (a₁ : Accepted s l₁) (a₂ : Accepted s l₂)
     (one : (j : ℕ) → j < s .«joint_count» → onlyOf j (calls l₁) ≡ onlyOf j (calls l₂))

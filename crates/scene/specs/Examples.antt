@@ -56,15 +56,12 @@ turned false false c d h = refl
 each-alike : (j : ℕ) → onlyOf j (calls firstThenSecond) ≡ onlyOf j (calls secondThenFirst)
 each-alike j = turned (eqb 0 j) (eqb 1 j) _ _ (λ p q. omega (arith, eqb-true 0 j p, eqb-true 1 j q))
 
+-- where the first body ends with a dynamic one in the middle, in both orders; and where the first and the last end with one that is not dynamic
+ends : (endX 0x1000 firstThenSecond 0 ≡ two) × (endX 0x1000 secondThenFirst 0 ≡ four) × (endX 0 firstThenSecond 0 ≡ two) × (endX 0 firstThenSecond 2 ≡ four)
+unfolding chain plainRun verdict earlyCause cause step store isStill sameVelocities Body.isDynamic Body.storeVelocities Stage.stageJoint Stage.warmStartJoint Stage.solveJoint Weld.solveWeld Weld.solveAngular Weld.weldAngularRow Weld.solvePoint Weld.pointRow Weld.isSoft Velocity.velocitiesOf Velocity.invMassesOf Velocity.applyPoint Soft.softImpulse3 Soft.softBias3 Rotation.flippedRelativeRotation Rotation.relativeRotation Rotation.samePolarity Angular.isWorked Point.pointBias Point.pointMass Point.pointCdotGrouped Scalar.absFloat Vector.add Vector.sub Vector.neg Vector.dot Vector.mulAdd Vector.mulSub Vector.mulSv Vector.cross Quat.rotateVector Quat.mulQuat Quat.invMulQuat Quat.dotQuat Quat.negateQuat Matrix.det Matrix.mulMv Matrix.negateMat3 Matrix.addMm Matrix.mulMm Matrix.solve3 Matrix.skew Ieee.ofBits Ieee.neg Ieee.add Ieee.sub Ieee.mul Ieee.div Ieee.lt Ieee.eq
+ends = (refl, refl, refl, refl)
+
 -- ---- a dynamic body in the middle
-
-one-ends : endX 0x1000 firstThenSecond 0 ≡ two
-unfolding chain plainRun verdict earlyCause cause step store isStill sameVelocities Body.isDynamic Body.storeVelocities Stage.stageJoint Stage.warmStartJoint Stage.solveJoint Weld.solveWeld Weld.solveAngular Weld.weldAngularRow Weld.solvePoint Weld.pointRow Weld.isSoft Velocity.velocitiesOf Velocity.invMassesOf Velocity.applyPoint Soft.softImpulse3 Soft.softBias3 Rotation.flippedRelativeRotation Rotation.relativeRotation Rotation.samePolarity Angular.isWorked Point.pointBias Point.pointMass Point.pointCdotGrouped Scalar.absFloat Vector.add Vector.sub Vector.neg Vector.dot Vector.mulAdd Vector.mulSub Vector.mulSv Vector.cross Quat.rotateVector Quat.mulQuat Quat.invMulQuat Quat.dotQuat Quat.negateQuat Matrix.det Matrix.mulMv Matrix.negateMat3 Matrix.addMm Matrix.mulMm Matrix.solve3 Matrix.skew Ieee.ofBits Ieee.neg Ieee.add Ieee.sub Ieee.mul Ieee.div Ieee.lt Ieee.eq
-one-ends = refl
-
-other-ends : endX 0x1000 secondThenFirst 0 ≡ four
-unfolding chain plainRun verdict earlyCause cause step store isStill sameVelocities Body.isDynamic Body.storeVelocities Stage.stageJoint Stage.warmStartJoint Stage.solveJoint Weld.solveWeld Weld.solveAngular Weld.weldAngularRow Weld.solvePoint Weld.pointRow Weld.isSoft Velocity.velocitiesOf Velocity.invMassesOf Velocity.applyPoint Soft.softImpulse3 Soft.softBias3 Rotation.flippedRelativeRotation Rotation.relativeRotation Rotation.samePolarity Angular.isWorked Point.pointBias Point.pointMass Point.pointCdotGrouped Scalar.absFloat Vector.add Vector.sub Vector.neg Vector.dot Vector.mulAdd Vector.mulSub Vector.mulSv Vector.cross Quat.rotateVector Quat.mulQuat Quat.invMulQuat Quat.dotQuat Quat.negateQuat Matrix.det Matrix.mulMv Matrix.negateMat3 Matrix.addMm Matrix.mulMm Matrix.solve3 Matrix.skew Ieee.ofBits Ieee.neg Ieee.add Ieee.sub Ieee.mul Ieee.div Ieee.lt Ieee.eq
-other-ends = refl
 
 two-is-not-four : two ≢ four
 unfolding Ieee.ofBits Ieee.eq
@@ -81,9 +78,9 @@ differ =
       accepted-other = accepted-second 0x1000;
       shared = shared;
       each-alike = each-alike;
-      one-ends = one-ends;
-      other-ends = other-ends;
-      not-alike = λ e. two-is-not-four (sym one-ends ∙ ap (λ r. bodyAt (r .scene) 0 .«linear_velocity» .x) e ∙ other-ends);
+      one-ends = ends .0;
+      other-ends = ends .1;
+      not-alike = λ e. two-is-not-four (sym (ends .0) ∙ ap (λ r. bodyAt (r .scene) 0 .«linear_velocity» .x) e ∙ ends .1);
     }
 
 -- ---- a body in the middle that is not dynamic
@@ -95,14 +92,6 @@ named = (inr refl, inl refl)
 not-dynamic : ¬ (Dynamic (chain 0) 1)
 unfolding chain Body.isDynamic
 not-dynamic e = false≢true e
-
-first-moved : endX 0 firstThenSecond 0 ≡ two
-unfolding chain plainRun verdict earlyCause cause step store isStill sameVelocities Body.isDynamic Body.storeVelocities Stage.stageJoint Stage.warmStartJoint Stage.solveJoint Weld.solveWeld Weld.solveAngular Weld.weldAngularRow Weld.solvePoint Weld.pointRow Weld.isSoft Velocity.velocitiesOf Velocity.invMassesOf Velocity.applyPoint Soft.softImpulse3 Soft.softBias3 Rotation.flippedRelativeRotation Rotation.relativeRotation Rotation.samePolarity Angular.isWorked Point.pointBias Point.pointMass Point.pointCdotGrouped Scalar.absFloat Vector.add Vector.sub Vector.neg Vector.dot Vector.mulAdd Vector.mulSub Vector.mulSv Vector.cross Quat.rotateVector Quat.mulQuat Quat.invMulQuat Quat.dotQuat Quat.negateQuat Matrix.det Matrix.mulMv Matrix.negateMat3 Matrix.addMm Matrix.mulMm Matrix.solve3 Matrix.skew Ieee.ofBits Ieee.neg Ieee.add Ieee.sub Ieee.mul Ieee.div Ieee.lt Ieee.eq
-first-moved = refl
-
-last-moved : endX 0 firstThenSecond 2 ≡ four
-unfolding chain plainRun verdict earlyCause cause step store isStill sameVelocities Body.isDynamic Body.storeVelocities Stage.stageJoint Stage.warmStartJoint Stage.solveJoint Weld.solveWeld Weld.solveAngular Weld.weldAngularRow Weld.solvePoint Weld.pointRow Weld.isSoft Velocity.velocitiesOf Velocity.invMassesOf Velocity.applyPoint Soft.softImpulse3 Soft.softBias3 Rotation.flippedRelativeRotation Rotation.relativeRotation Rotation.samePolarity Angular.isWorked Point.pointBias Point.pointMass Point.pointCdotGrouped Scalar.absFloat Vector.add Vector.sub Vector.neg Vector.dot Vector.mulAdd Vector.mulSub Vector.mulSv Vector.cross Quat.rotateVector Quat.mulQuat Quat.invMulQuat Quat.dotQuat Quat.negateQuat Matrix.det Matrix.mulMv Matrix.negateMat3 Matrix.addMm Matrix.mulMm Matrix.solve3 Matrix.skew Ieee.ofBits Ieee.neg Ieee.add Ieee.sub Ieee.mul Ieee.div Ieee.lt Ieee.eq
-last-moved = refl
 
 -- of the dynamic bodies joint 0 names 0 and joint 1 names 2, and no other joint names a body: so no two share one
 past-end : (n j : ℕ) → getD (replicate n unusedJoint) j unusedJoint ≡ unusedJoint
@@ -137,7 +126,7 @@ agree =
       accepted-other = accepted-second 0;
       shared = named;
       not-dynamic = not-dynamic;
-      first-moved = first-moved;
-      last-moved = last-moved;
+      first-moved = ends .2;
+      last-moved = ends .3;
       alike = alike;
     }

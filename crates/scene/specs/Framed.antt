@@ -5,6 +5,9 @@ use mathlib.Core.List.{List, [], _∷_, map}
 use Prim.Native.Nat.{ℕ}
 use lib.ListN.{getD, List·getD-map}
 use lib.Seq.{map-set-same}
+use Rattle.records.specs.declared.joint.RevoluteJoint.{RevoluteJoint}
+use Rattle.records.specs.declared.joint.SphericalJoint.{SphericalJoint}
+use Rattle.records.specs.declared.joint.WeldJoint.{WeldJoint}
 use Rattle.records.specs.declared.joint.JointUnion.{JointUnion}
 use Rattle.records.specs.declared.joint.JointUnion.the-variants.{Revolute, Spherical, Weld, Other}
 use Rattle.records.specs.declared.joint.JointSim.{JointSim}
@@ -24,23 +27,19 @@ use Rattle.scene.specs.Stores.{SameRest, both-rest}
 abbrev pub fixedOf : JointSim → JointSim
 fixedOf j = jointSim (j .base) (settingsOf (j .«union_»))
 
-same-case : (u : JointUnion) → caseOf (settingsOf u) ≡ caseOf u
-same-case (Revolute r) = refl
-same-case (Spherical r) = refl
-same-case (Weld r) = refl
-same-case Other = refl
-
-same-a : (u : JointUnion) → indexA (settingsOf u) ≡ indexA u
-same-a (Revolute r) = refl
-same-a (Spherical r) = refl
-same-a (Weld r) = refl
-same-a Other = refl
-
-same-b : (u : JointUnion) → indexB (settingsOf u) ≡ indexB u
-same-b (Revolute r) = refl
-same-b (Spherical r) = refl
-same-b (Weld r) = refl
-same-b Other = refl
+-- what reads nothing of a joint that a solve writes is the same of two joints with the same settings
+pub unread : {A : Type 0} (f : JointUnion → A)
+    → ((r : RevoluteJoint) → f (settingsOf (Revolute r)) ≡ f (Revolute r))
+    → ((r : SphericalJoint) → f (settingsOf (Spherical r)) ≡ f (Spherical r))
+    → ((r : WeldJoint) → f (settingsOf (Weld r)) ≡ f (Weld r))
+    → (u v : JointUnion) → settingsOf u ≡ settingsOf v → f u ≡ f v
+unread f p q r u v e = sym (at u) ∙ ap f e ∙ at v
+  where
+    at : (u : JointUnion) → f (settingsOf u) ≡ f u
+    at (Revolute j) = p j
+    at (Spherical j) = q j
+    at (Weld j) = r j
+    at Other = refl
 
 pub only-impulses : (before after : JointSim) → fixedOf after ≡ fixedOf before → OnlyImpulses before after
 only-impulses before after e =
@@ -49,9 +48,9 @@ only-impulses before after e =
     let same = ap (λ j. j .«union_») e in
     record {
       base = ap (λ j. j .base) e;
-      case = sym (same-case v) ∙ ap caseOf same ∙ same-case u;
-      index-a = sym (same-a v) ∙ ap indexA same ∙ same-a u;
-      index-b = sym (same-b v) ∙ ap indexB same ∙ same-b u;
+      case = unread caseOf (λ r. refl) (λ r. refl) (λ r. refl) v u same;
+      index-a = unread indexA (λ r. refl) (λ r. refl) (λ r. refl) v u same;
+      index-b = unread indexB (λ r. refl) (λ r. refl) (λ r. refl) v u same;
       settings = same;
     }
 
@@ -97,21 +96,9 @@ fixed-at s t f j =
 
 -- ---- a call's cause is the same in every scene that a run passes through
 
--- it reads nothing of the joint that a solve writes
-cause-settings : (bodies joints : ℕ) (u : JointUnion) (c : Call) → causeIn bodies joints (settingsOf u) c ≡ causeIn bodies joints u c
-cause-settings bodies joints (Revolute r) c = refl
-cause-settings bodies joints (Spherical r) c = refl
-cause-settings bodies joints (Weld r) c = refl
-cause-settings bodies joints Other c = refl
-
 pub cause-kept : (s t : Scene) → Framed s t → (c : Call) → cause t c ≡ cause s c
 unfolding cause
 cause-kept s t f c =
-    let bodies = s .«body_count» in
-    let joints = s .«joint_count» in
-    let u = jointAt s (c .slot) .«union_» in
     let v = jointAt t (c .slot) .«union_» in
     ap₂ (λ m n. causeIn m n v c) (f .body-count) (f .joint-count)
-    ∙ sym (cause-settings bodies joints v c)
-    ∙ ap (λ x. causeIn bodies joints x c) (fixed-at s t f (c .slot) .settings)
-    ∙ cause-settings bodies joints u c
+    ∙ unread (λ x. causeIn (s .«body_count») (s .«joint_count») x c) (λ r. refl) (λ r. refl) (λ r. refl) v (jointAt s (c .slot) .«union_») (fixed-at s t f (c .slot) .settings)

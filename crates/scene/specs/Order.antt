@@ -1,7 +1,7 @@
 -- Which calls may change places: those of two joints that share no dynamic body. So the theorem on order holds of a scene's calls. Assumes nothing.
 use mathlib.Core.Path.{_≡_, refl, sym, ap, ap₂, _∙_}
 use mathlib.Core.Logic.{_⊎_, inl, inr, ⊎-elim, _≢_}
-use mathlib.Core.Bool.{Bool, true, false, _&&_, _||_, true≢false, false≢true}
+use mathlib.Core.Bool.{Bool, true, false, _||_, true≢false, false≢true, and-eq-true-iff, or-self}
 use mathlib.Core.List.{List, [], _∷_}
 use Prim.Native.Nat.{ℕ}
 use lib.Dec.{eqb}
@@ -18,13 +18,12 @@ use Rattle.joint.specs.declared.stage.Staged.{Staged}
 use Rattle.joint.specs.Stage.{stageJoint}
 use Rattle.scene.specs.declared.Scene.{Scene}
 use Rattle.scene.specs.Keep.{keepIf}
-use Rattle.scene.specs.Reorder.{runAll, Steps, reorder}
+use Rattle.scene.specs.Reorder.{runAll, Steps, or-left, or-right, reorder}
 use Rattle.records.specs.Joint.{unusedJoint}
 use Rattle.joint.specs.Index.{indexA, indexB}
 use Rattle.scene.specs.Scene.{jointAt, Dynamic, Names, ShareDynamic}
 use Rattle.scene.specs.Calls.{Call, calls, onlyOf, onlyOfTwo}
 use Rattle.scene.specs.Plain.{placed, stageAt, step, done, Accepted, plainRun}
-use Rattle.scene.specs.Still.{both}
 use Rattle.scene.specs.Stores.{clash, clash-at, Clear, both-unseen, both-swap}
 use Rattle.scene.specs.Framed.{Framed, framed-start, framed-step, fixed-at}
 
@@ -81,16 +80,9 @@ or-false : (a b : Bool) → a || b ≡ false → (a ≡ false) × (b ≡ false)
 or-false true b e = absurd (true≢false e)
 or-false false b e = (refl, e)
 
-or-left : (a b : Bool) → a ≡ true → a || b ≡ true
-or-left a b e = rw e
-
-or-right : (a b : Bool) → b ≡ true → a || b ≡ true
-or-right true b e = refl
-or-right false b e = e
-
 pub clash-yes : (bs : List BodyState) (x y : ℤ) → clash bs x y ≡ true → (n : ℕ) × (x ≡ pos n) × (y ≡ pos n) × (isDynamic (getD bs n identityBodyState) ≡ true)
 clash-yes bs (pos m) (pos n) e =
-    let h = both (eqb m n) (isDynamic (getD bs m identityBodyState)) e in
+    let h = and-eq-true-iff (eqb m n) (isDynamic (getD bs m identityBodyState)) .0 e in
     (m, refl, ap pos (sym (eqb-true m n (h .0))), h .1)
 clash-yes bs (pos m) (negsuc n) e = absurd (false≢true e)
 clash-yes bs (negsuc m) y e = absurd (false≢true e)
@@ -188,13 +180,9 @@ laws s =
 
 -- ---- the theorem on order
 
-or-same : (b : Bool) → b || b ≡ b
-or-same true = refl
-or-same false = refl
-
 one-as-two : (j : ℕ) (l : List Call) → onlyOfTwo j j l ≡ onlyOf j l
 one-as-two j [] = refl
-one-as-two j (c ∷ l) = ap₂ (λ b m. keepIf b c m) (or-same (eqb (c .slot) j)) (one-as-two j l)
+one-as-two j (c ∷ l) = ap₂ (λ b m. keepIf b c m) (or-self (eqb (c .slot) j)) (one-as-two j l)
 
 pub end-alike : (s : Scene) (l₁ l₂ : List Call)
     → ((j : ℕ) → onlyOf j l₁ ≡ onlyOf j l₂)

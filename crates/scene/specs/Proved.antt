@@ -12,7 +12,7 @@ use borrow.Author.Tests.{eqb-true, eqb-false}
 use Rattle.records.specs.declared.body.BodyState.{BodyState}
 use Rattle.records.specs.declared.joint.JointBase.{JointBase}
 use Rattle.records.specs.declared.joint.JointUnion.{JointUnion}
-use Rattle.records.specs.declared.joint.JointUnion.the-variants.{Revolute, Spherical, Weld, Other}
+use Rattle.records.specs.declared.joint.JointUnion.the-variants.{Other}
 use Rattle.records.specs.declared.joint.JointSim.{JointSim}
 use Rattle.constraint.specs.Answer.{jointSim}
 use Rattle.joint.specs.Stage.{stageJoint}
@@ -21,10 +21,10 @@ use Rattle.scene.specs.Scene.{jointAt, bodyAt}
 use Rattle.scene.specs.Calls.{calls}
 use Rattle.scene.specs.Plain.{verdict, Accepted, runCalls, isStill, plainRun}
 use Rattle.scene.specs.Claims.{Numbers, Acceptance, Refusal, Midway, Stillness, SameVelocities, NoNaN, EmptyList, Order, OrderCounted, Changes, ChangesMidway, OnlyChanges, Cause6, Cause7, tests, settingsOf, limitsOf, LimitsNonNegative, Limits, Differ, Agree}
-use Rattle.scene.specs.Accepted.{verdict-answers, answers-numbers, answers-none, run-accepted, run-refused, run-verdict, accepted-calls, no-cause-kept, no-cause-at}
+use Rattle.scene.specs.Accepted.{verdict-answers, answers-numbers, answers-none, by-verdict, run-accepted, run-verdict, accepted-calls, no-cause-kept, no-cause-at}
 use Rattle.scene.specs.Stages.{no-limits, stage-keeps, warm-keeps, solve-limits}
 use Rattle.scene.specs.Settled.{settled}
-use Rattle.scene.specs.Framed.{framed, fixed-at}
+use Rattle.scene.specs.Framed.{unread, framed, fixed-at}
 use Rattle.scene.specs.Still.{same-below, same-self}
 use Rattle.scene.specs.Examples as Examples
 use Rattle.scene.specs.Order.{same-answer}
@@ -46,9 +46,7 @@ acceptance s l =
     ((λ e. given .0 (sym (same .0) ∙ e), λ h. same .0 ∙ given .1 h), λ e. same .1 ∙ verdict-answers s l .none (sym (same .0) ∙ e) .1)
 
 pub refusal : Refusal
-refusal s l ne =
-    let r = run-refused s l (λ e. ne (run-verdict s l .0 ∙ e)) in
-    (ap (λ x. x .still) r, ap (λ x. x .scene) r)
+refusal s l = by-verdict s l (λ r. r .number ≢ 0 → (r .still ≡ false) × (r .scene ≡ s)) (λ e ne. absurd (ne refl)) (λ n ne. (refl, refl))
 
 pub midway : Midway
 midway s l e before c after same =
@@ -71,11 +69,7 @@ empty-7 (inl e) = omega arith
 empty-7 (inr h) = omega arith
 
 empty-same : (s : Scene) → plainRun s [] .scene ≡ s
-empty-same s = by (eqb (verdict s [] .number) 0) refl
-  where
-    by : (b : Bool) → eqb (verdict s [] .number) 0 ≡ b → plainRun s [] .scene ≡ s
-    by true e = ap (λ x. x .scene) (run-accepted s [] (eqb-true (verdict s [] .number) 0 e))
-    by false e = ap (λ x. x .scene) (run-refused s [] (eqb-false (verdict s [] .number) 0 e))
+empty-same s = by-verdict s [] (λ r. r .scene ≡ s) (λ e. refl) (λ ne. refl)
 
 pub empty-list : EmptyList
 empty-list s = record { accepted = number; unaltered = empty-same s; still = still }
@@ -105,31 +99,15 @@ pub changes-midway : ChangesMidway
 changes-midway = only-changes
 
 pub changes : Changes
-changes s l = by (eqb (verdict s l .number) 0) refl
-  where
-    by : (b : Bool) → eqb (verdict s l .number) 0 ≡ b → OnlyChanges s (calls l) (plainRun s l .scene)
-    by true e = rw (run-accepted s l (eqb-true (verdict s l .number) 0 e)) (only-changes s (calls l))
-    by false e = rw (run-refused s l (eqb-false (verdict s l .number) 0 e)) (nothing-changes s (calls l))
+changes s l = by-verdict s l (λ r. OnlyChanges s (calls l) (r .scene)) (λ e. only-changes s (calls l)) (λ ne. nothing-changes s (calls l))
 
 -- ---- limits
-
-limit-stays : (u : JointUnion) → limitsOf (settingsOf u) .limit-on ≡ limitsOf u .limit-on
-limit-stays (Revolute r) = refl
-limit-stays (Spherical r) = refl
-limit-stays (Weld r) = refl
-limit-stays Other = refl
-
-cone-stays : (u : JointUnion) → limitsOf (settingsOf u) .cone-on ≡ limitsOf u .cone-on
-cone-stays (Revolute r) = refl
-cone-stays (Spherical r) = refl
-cone-stays (Weld r) = refl
-cone-stays Other = refl
 
 -- the switches are settings
 limits-from : (u v w : JointUnion) → settingsOf u ≡ settingsOf w → LimitsNonNegative u v → LimitsNonNegative w v
 limits-from u v w e p =
-    let limit : limitsOf u .limit-on ≡ limitsOf w .limit-on = sym (limit-stays u) ∙ ap (λ x. limitsOf x .limit-on) e ∙ limit-stays w in
-    let cone : limitsOf u .cone-on ≡ limitsOf w .cone-on = sym (cone-stays u) ∙ ap (λ x. limitsOf x .cone-on) e ∙ cone-stays w in
+    let limit = unread (λ x. limitsOf x .limit-on) (λ r. refl) (λ r. refl) (λ r. refl) u w e in
+    let cone = unread (λ x. limitsOf x .cone-on) (λ r. refl) (λ r. refl) (λ r. refl) u w e in
     record { lower = λ on. p .lower (limit ∙ on); upper = λ on. p .upper (limit ∙ on); swing = λ on. p .swing (cone ∙ on) }
 
 -- what each solve of a joint brings about

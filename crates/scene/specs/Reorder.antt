@@ -34,12 +34,12 @@ pub record Steps {C S : Type 0} (step : C → S → S) (slot : C → ℕ) (dep :
 both : (a b : Bool) → a ≡ false → b ≡ false → a || b ≡ false
 both a b p q = rw (p, q)
 
-left : (a b : Bool) → a ≡ true → a || b ≡ true
-left a b p = rw p
+pub or-left : (a b : Bool) → a ≡ true → a || b ≡ true
+or-left a b p = rw p
 
-right : (a b : Bool) → b ≡ true → a || b ≡ true
-right true b p = refl
-right false b p = p
+pub or-right : (a b : Bool) → b ≡ true → a || b ≡ true
+or-right true b p = refl
+or-right false b p = p
 
 none-is : {C : Type 0} {a : C} {l : List C} → _≡_ {A = List C} [] (a ∷ l) → ⊥
 none-is e = let z : _≡_ {A = ℕ} 0 1 = cc in omega arith
@@ -98,13 +98,13 @@ module _ {C S : Type 0} (step : C → S → S) (slot : C → ℕ) (dep : ℕ →
   module _ (a d : C) (l : List C) (h : First a (d ∷ l)) where
     here : eqb (slot d) (slot a) ≡ true → d ≡ a
     here e =
-        let k : keep (ofTwo slot (slot a) (slot a)) (d ∷ l) ≡ d ∷ keep (ofTwo slot (slot a) (slot a)) l = keep-yes (ofTwo slot (slot a) (slot a)) d l (left (eqb (slot d) (slot a)) (eqb (slot d) (slot a)) e) in
+        let k : keep (ofTwo slot (slot a) (slot a)) (d ∷ l) ≡ d ∷ keep (ofTwo slot (slot a) (slot a)) l = keep-yes (ofTwo slot (slot a) (slot a)) d l (or-left (eqb (slot d) (slot a)) (eqb (slot d) (slot a)) e) in
         let q = h (slot a) (laws .self (slot a)) .1 in
         cc
 
     there : dep (slot a) (slot d) ≡ true → d ≡ a
     there e =
-        let k : keep (ofTwo slot (slot a) (slot d)) (d ∷ l) ≡ d ∷ keep (ofTwo slot (slot a) (slot d)) l = keep-yes (ofTwo slot (slot a) (slot d)) d l (right (eqb (slot d) (slot a)) (eqb (slot d) (slot d)) (eq-eqb (slot d) (slot d) refl)) in
+        let k : keep (ofTwo slot (slot a) (slot d)) (d ∷ l) ≡ d ∷ keep (ofTwo slot (slot a) (slot d)) l = keep-yes (ofTwo slot (slot a) (slot d)) d l (or-right (eqb (slot d) (slot a)) (eqb (slot d) (slot d)) (eq-eqb (slot d) (slot d) refl)) in
         let q = h (slot d) e .1 in
         cc
 
@@ -125,11 +125,11 @@ module _ {C S : Type 0} (step : C → S → S) (slot : C → ℕ) (dep : ℕ →
   -- a list that reads like the empty one is empty
   empty : (l : List C) → Alike [] l → l ≡ []
   empty [] h = refl
-  empty (a ∷ l) h = absurd (none-is (h (slot a) (slot a) (laws .self (slot a)) ∙ keep-yes (ofTwo slot (slot a) (slot a)) a l (left (eqb (slot a) (slot a)) (eqb (slot a) (slot a)) (eq-eqb (slot a) (slot a) refl))))
+  empty (a ∷ l) h = absurd (none-is (h (slot a) (slot a) (laws .self (slot a)) ∙ keep-yes (ofTwo slot (slot a) (slot a)) a l (or-left (eqb (slot a) (slot a)) (eqb (slot a) (slot a)) (eq-eqb (slot a) (slot a) refl))))
 
   -- the head's first place in the one list is its first place in the other
   first : (a : C) (l₁ l₂ : List C) → Alike (a ∷ l₁) l₂ → First a l₂
-  first a l₁ l₂ h j e = (keep (ofTwo slot (slot a) j) l₁, sym (h (slot a) j e) ∙ keep-yes (ofTwo slot (slot a) j) a l₁ (left (eqb (slot a) (slot a)) (eqb (slot a) j) (eq-eqb (slot a) (slot a) refl)))
+  first a l₁ l₂ h j e = (keep (ofTwo slot (slot a) j) l₁, sym (h (slot a) j e) ∙ keep-yes (ofTwo slot (slot a) j) a l₁ (or-left (eqb (slot a) (slot a)) (eqb (slot a) j) (eq-eqb (slot a) (slot a) refl)))
 
   tails : (x : Bool) (a : C) (m n : List C) → keepIf x a m ≡ keepIf x a n → m ≡ n
   tails true a m n e = cc

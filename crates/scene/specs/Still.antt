@@ -1,7 +1,7 @@
 -- What still says, of each velocity component of each counted body. Assumes nothing.
 use mathlib.Core.Path.{_≡_, refl, sym, ap, _∙_}
 use mathlib.Core.Logic.{_≢_, _↔_}
-use mathlib.Core.Bool.{Bool, true, false, Bool·beq, _&&_, false≢true}
+use mathlib.Core.Bool.{Bool, true, false, Bool·beq, _&&_, false≢true, and-eq-true-iff}
 use mathlib.Core.List.{List}
 use Prim.Native.Nat.{ℕ, zero, suc, _*_, _<_}
 use native.Mathlib.Omega.{arith}
@@ -17,36 +17,30 @@ use Rattle.records.specs.Body.{identityBodyState}
 use Rattle.scene.specs.Plain.{sameVector, sameVelocities, sameBelow}
 use Rattle.scene.specs.Claims.{SameVector, SameVelocities, NoNaN}
 
--- of two tests that hold together each holds
-pub both : (a b : Bool) → a && b ≡ true → (a ≡ true) × (b ≡ true)
-both true b e = (refl, e)
-both false b e = absurd (false≢true e)
-
-and : (a b : Bool) → a ≡ true → b ≡ true → a && b ≡ true
-and a b e f = rw (e, f)
-
 -- ---- of two states
 
 to-vector : (v w : Vec3) → sameVector v w ≡ true → SameVector v w
 to-vector v w e =
-    let xyz = both (eq (v .x) (w .x) && eq (v .y) (w .y)) (eq (v .z) (w .z)) e in
-    let xy = both (eq (v .x) (w .x)) (eq (v .y) (w .y)) (xyz .0) in
+    let xyz = and-eq-true-iff (eq (v .x) (w .x) && eq (v .y) (w .y)) (eq (v .z) (w .z)) .0 e in
+    let xy = and-eq-true-iff (eq (v .x) (w .x)) (eq (v .y) (w .y)) .0 (xyz .0) in
     record { same-x = xy .0; same-y = xy .1; same-z = xyz .1 }
 
 of-vector : (v w : Vec3) → SameVector v w → sameVector v w ≡ true
-of-vector v w h = and (eq (v .x) (w .x) && eq (v .y) (w .y)) (eq (v .z) (w .z)) (and (eq (v .x) (w .x)) (eq (v .y) (w .y)) (h .same-x) (h .same-y)) (h .same-z)
+of-vector v w h =
+    and-eq-true-iff (eq (v .x) (w .x) && eq (v .y) (w .y)) (eq (v .z) (w .z)) .1
+    (and-eq-true-iff (eq (v .x) (w .x)) (eq (v .y) (w .y)) .1 (h .same-x, h .same-y), h .same-z)
 
 to-velocities : (a b : BodyState) → sameVelocities a b ≡ true → SameVelocities a b
 unfolding sameVelocities
 to-velocities a b e =
-    let h = both (sameVector (a .«linear_velocity») (b .«linear_velocity»)) (sameVector (a .«angular_velocity») (b .«angular_velocity»)) e in
+    let h = and-eq-true-iff (sameVector (a .«linear_velocity») (b .«linear_velocity»)) (sameVector (a .«angular_velocity») (b .«angular_velocity»)) .0 e in
     record { same-linear = to-vector _ _ (h .0); same-angular = to-vector _ _ (h .1) }
 
 of-velocities : (a b : BodyState) → SameVelocities a b → sameVelocities a b ≡ true
 unfolding sameVelocities
 of-velocities a b h =
-    and (sameVector (a .«linear_velocity») (b .«linear_velocity»)) (sameVector (a .«angular_velocity») (b .«angular_velocity»))
-    (of-vector _ _ (h .same-linear)) (of-vector _ _ (h .same-angular))
+    and-eq-true-iff (sameVector (a .«linear_velocity») (b .«linear_velocity»)) (sameVector (a .«angular_velocity») (b .«angular_velocity»)) .1
+    (of-vector _ _ (h .same-linear), of-vector _ _ (h .same-angular))
 
 -- ---- of the first bodies
 
@@ -55,7 +49,7 @@ to-each zero bs cs e k h = absurd (omega arith)
 to-each (suc n) bs cs e k h = by (to-each n bs cs (parts .0) k) (eqb k n) refl
   where
     parts : (sameBelow n bs cs ≡ true) × (sameVelocities (getD bs n identityBodyState) (getD cs n identityBodyState) ≡ true)
-    parts = both (sameBelow n bs cs) (sameVelocities (getD bs n identityBodyState) (getD cs n identityBodyState)) e
+    parts = and-eq-true-iff (sameBelow n bs cs) (sameVelocities (getD bs n identityBodyState) (getD cs n identityBodyState)) .0 e
 
     by : (k < n → SameVelocities (getD bs k identityBodyState) (getD cs k identityBodyState)) → (b : Bool) → eqb k n ≡ b
         → SameVelocities (getD bs k identityBodyState) (getD cs k identityBodyState)
@@ -65,9 +59,8 @@ to-each (suc n) bs cs e k h = by (to-each n bs cs (parts .0) k) (eqb k n) refl
 of-each : (n : ℕ) (bs cs : List BodyState) → ((k : ℕ) → k < n → SameVelocities (getD bs k identityBodyState) (getD cs k identityBodyState)) → sameBelow n bs cs ≡ true
 of-each zero bs cs h = refl
 of-each (suc n) bs cs h =
-    and (sameBelow n bs cs) (sameVelocities (getD bs n identityBodyState) (getD cs n identityBodyState))
-    (of-each n bs cs (λ k g. h k (omega arith)))
-    (of-velocities (getD bs n identityBodyState) (getD cs n identityBodyState) (h n (omega arith)))
+    and-eq-true-iff (sameBelow n bs cs) (sameVelocities (getD bs n identityBodyState) (getD cs n identityBodyState)) .1
+    (of-each n bs cs (λ k g. h k (omega arith)), of-velocities (getD bs n identityBodyState) (getD cs n identityBodyState) (h n (omega arith)))
 
 pub same-below : (n : ℕ) (bs cs : List BodyState) → (sameBelow n bs cs ≡ true) ↔ ((k : ℕ) → k < n → SameVelocities (getD bs k identityBodyState) (getD cs k identityBodyState))
 same-below n bs cs = (to-each n bs cs, of-each n bs cs)

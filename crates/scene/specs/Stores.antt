@@ -5,7 +5,7 @@ use mathlib.Core.List.{List, map}
 use Prim.Native.Nat.{ℕ}
 use lib.Dec.{eqb}
 use lib.IntN.{ℤ, pos, negsuc}
-use lib.ListN.{getD, List·getD-map}
+use lib.ListN.{length, getD, length-set, List·getD-map}
 use lib.Seq.{getD-set-other, set-getD, set-comm, map-set-same}
 use borrow.Author.Tests.{eqb-true, eqb-false}
 use Rattle.math_functions.specs.declared.types.Vec3.{Vec3}
@@ -19,13 +19,19 @@ use Rattle.scene.specs.Scene.{stateAt, store}
 use Rattle.scene.specs.Plain.{storeBoth}
 
 -- ---- a store at -1, or on a body that is not dynamic, changes nothing
-store-none : (bs : List BodyState) (n : ℕ) (v w : Vec3) → store bs (negsuc n) v w ≡ bs
+pub store-none : (bs : List BodyState) (n : ℕ) (v w : Vec3) → store bs (negsuc n) v w ≡ bs
 unfolding store
 store-none bs n v w = refl
 
 store-not : (bs : List BodyState) (n : ℕ) (v w : Vec3) → isDynamic (getD bs n identityBodyState) ≡ false → store bs (pos n) v w ≡ bs
 unfolding store storeVelocities
 store-not bs n v w e = rw e (set-getD bs n identityBodyState)
+
+-- ---- a store keeps the count
+pub store-long : (bs : List BodyState) (x : ℤ) (v w : Vec3) → length (store bs x v w) ≡ length bs
+unfolding store
+store-long bs (pos n) v w = length-set bs n _
+store-long bs (negsuc n) v w = refl
 
 -- ---- all of a body but its velocities
 
