@@ -5,7 +5,6 @@ pub mod Rows
 pub mod Pieces
 pub mod Calls
 pub mod Stages
-pub mod Signs
 pub mod Planned
 pub mod WarmStart
 pub mod Solve

@@ -8,8 +8,8 @@ use Rattle.records.proofs.joint.JointSim.Laws as Tj′
 use Rattle.direct.proofs.Rows.{J}
 
 -- the type of a local that holds a reference lent again
-abbrev pub slot : Ty → Ty
-slot τ = tyRef erased mut τ
+abbrev pub refTo : Ty → Ty
+refTo τ = tyRef erased mut τ
 
 -- the slice at the local s is lent again, at the local j, by way of i
 abbrev pub lends : ℕ → ℕ → ℕ → Body → Body

@@ -1,5 +1,5 @@
 -- The steps of the code do what a direct call is defined to do. Assumes nothing.
---     turned-away      a call that is refused.        warm-started, solved      one that is not: what its steps leave is the outcome.        write-long      as many states
+--     refuses      a call that is refused.        warm-started, solved      one that is not: what its steps leave is the outcome.        write-long      as many states
 use mathlib.Core.Path.{_≡_, refl, sym, ap, ap₂, _∙_}
 use mathlib.Core.Bool.{Bool, true, false, cond, not, false≢true}
 use mathlib.Core.List.{List}
@@ -8,10 +8,11 @@ use native.Mathlib.Nat.{le-refl}
 use native.Mathlib.Omega.{arith}
 use lib.Dec.{T, eqb}
 use lib.Ieee.{Float}
+use lib.Ieee.Bits.{is-false}
 use lib.IntN.{ℤ, pos, negsuc}
 use lib.ListN.{length, length-set, getD, List·getD-eq-default}
 use lib.Seq.{set-out}
-use borrow.Author.Tests.{eq-eqb, eqb-true}
+use borrow.Author.Tests.{eq-eqb, eqb-true, eqb-false, not-false}
 use Rattle.math_functions.specs.declared.types.Vec3.{Vec3}
 use Rattle.solver.specs.declared.StepContext.{StepContext}
 use Rattle.records.specs.declared.body.BodyState.{BodyState}
@@ -28,24 +29,17 @@ use Rattle.joint.specs.Index.{indexA, indexB, indexCause}
 use Rattle.records.specs.Joint.{caseOf}
 use Rattle.scene.specs.Scene.{stateAt, store}
 use Rattle.scene.specs.Plain.{storeBoth}
+use Rattle.scene.specs.Stores.{store-long}
 use Rattle.direct.specs.declared.call.Call.{Call}
 use Rattle.direct.specs.declared.places.Places.{Places}
 use Rattle.direct.specs.Direct.{isOfKind, cause, Outcome, refused, warmStart, solve, stageAt, directCall}
-use Rattle.direct.specs.Stored.{store-long}
+use Rattle.direct.specs.Outcomes.{its-cause, worked-is, refused-is}
 use Rattle.direct.specs.Steps.{placeOf, placesOf, readStates, storeAt, writeStates}
 
 -- ---- what a test of the number says
 
-fails : (t : Bool) → T (not t) → t ≡ false
-fails true h = absurd h
-fails false h = refl
-
 zero-of : (m : ℕ) → T (not (not (eqb m 0))) → m ≡ 0
-zero-of m = by (eqb m 0) refl
-  where
-    by : (t : Bool) → eqb m 0 ≡ t → T (not (not t)) → m ≡ 0
-    by true e h = eqb-true m 0 e
-    by false e h = absurd h
+zero-of m h = eqb-true m 0 (not-false (eqb m 0) (is-false (not (eqb m 0)) h))
 
 -- ---- places
 
@@ -87,45 +81,45 @@ solve-as kind u base h invH a b false e = rw e
 
 -- ---- the whole call
 
-module _ (joint : JointSim) (s : List BodyState) (kind : ℕ) where
+module _ (joint : JointSim) (s : List BodyState) where
   abbrev u : JointUnion
   u = joint .«union_»
 
-  abbrev number : ℕ
-  number = cause kind u (length s)
+  module _ (call : Call) where
+    abbrev number : ℕ
+    number = its-cause call joint s
 
-  abbrev p : Places
-  p = placesOf kind joint (length s)
+    abbrev p : Places
+    p = placesOf (call .kind) joint (length s)
 
-  stored : (v : Velocities) → writeStates p v s ≡ storeBoth s u v
-  stored v =
-      ap (storeAt (p .b) (v .«v_b») (v .«w_b»)) (writes s (length s) refl (indexA u) (v .«v_a») (v .«w_a»))
-      ∙ writes (store s (indexA u) (v .«v_a») (v .«w_a»)) (length s) (store-long s (indexA u) (v .«v_a») (v .«w_a»)) (indexB u) (v .«v_b») (v .«w_b»)
+    stored : (v : Velocities) → writeStates p v s ≡ storeBoth s u v
+    stored v =
+        ap (storeAt (p .b) (v .«v_b») (v .«w_b»)) (writes s (length s) refl (indexA u) (v .«v_a») (v .«w_a»))
+        ∙ writes (store s (indexA u) (v .«v_a») (v .«w_a»)) (length s) (store-long s (indexA u) (v .«v_a») (v .«w_a»)) (indexB u) (v .«v_b») (v .«w_b»)
 
-  -- what the steps leave, of a stage's result
-  abbrev pub leaves : Staged → Outcome
-  leaves r = record { answer = p .answer; joint = jointSim (joint .base) (r .«union_»); states = writeStates p (r .velocities) s }
+    -- what the steps leave, of a stage's result
+    abbrev pub leaves : Staged → Outcome
+    leaves r = record { answer = p .answer; joint = jointSim (joint .base) (r .«union_»); states = writeStates p (r .velocities) s }
 
-  pub turned-away : (call : Call) → call .kind ≡ kind → T (not (eqb number 0)) → refused number joint s ≡ directCall call joint s
-  unfolding directCall
-  turned-away call e h = rw (e, fails (eqb number 0) h)
+    pub refuses : T (not (eqb number 0)) → refused number joint s ≡ directCall call joint s
+    refuses h = sym (refused-is call joint s (eqb-false number 0 (is-false (eqb number 0) h)))
 
-  worked : (call : Call) → call .kind ≡ kind → number ≡ 0 → leaves (stageAt call joint s) ≡ directCall call joint s
-  unfolding directCall
-  worked call k e = rw (k, e, stored (stageAt call joint s .velocities))
+    -- a stage that is the call's on the two states at the joint's indices
+    by-stage : (on : BodyState → BodyState → Staged) → T (not (not (eqb number 0))) → (eqb (caseOf u) (call .kind) ≡ true → stageAt call joint s ≡ on (stateAt s (indexA u)) (stateAt s (indexB u)))
+        → let ab = readStates p s in leaves (on (ab .«state_a») (ab .«state_b»)) ≡ directCall call joint s
+    by-stage on h is =
+        let e = zero-of number h in
+        let r = stageAt call joint s in
+        ap leaves (ap₂ on (reads s (indexA u)) (reads s (indexB u)) ∙ sym (is (is-kind (call .kind) (length s) u e))) ∙ rw (e, stored (r .velocities)) (sym (worked-is call joint s e))
 
-  -- a stage that is the call's on the two states at the joint's indices
-  by-stage : (call : Call) → call .kind ≡ kind → (on : BodyState → BodyState → Staged) → T (not (not (eqb number 0))) → (eqb (caseOf u) kind ≡ true → stageAt call joint s ≡ on (stateAt s (indexA u)) (stateAt s (indexB u)))
-      → let ab = readStates p s in leaves (on (ab .«state_a») (ab .«state_b»)) ≡ directCall call joint s
-  by-stage call k on h is =
-      let e = zero-of number h in
-      ap leaves (ap₂ on (reads s (indexA u)) (reads s (indexB u)) ∙ sym (is (is-kind kind (length s) u e))) ∙ worked call k e
+  pub warm-started : (kind : ℕ) → T (not (not (eqb (number (warmStart kind)) 0)))
+      → let ab = readStates (p (warmStart kind)) s in
+      leaves (warmStart kind) (staged u (warmStartAs kind u (joint .base) (ab .«state_a») (ab .«state_b»))) ≡ directCall (warmStart kind) joint s
+  warm-started kind h = by-stage (warmStart kind) (λ a b. staged u (warmStartAs kind u (joint .base) a b)) h (warm-as kind u (joint .base) (stateAt s (indexA u)) (stateAt s (indexB u)))
 
-  pub warm-started : T (not (not (eqb number 0))) → let ab = readStates p s in leaves (staged u (warmStartAs kind u (joint .base) (ab .«state_a») (ab .«state_b»))) ≡ directCall (warmStart kind) joint s
-  warm-started h = by-stage (warmStart kind) refl (λ a b. staged u (warmStartAs kind u (joint .base) a b)) h (warm-as kind u (joint .base) (stateAt s (indexA u)) (stateAt s (indexB u)))
-
-  pub solved : (context : StepContext) (useBias : Bool) → T (not (not (eqb number 0)))
-      → let ab = readStates p s in leaves (solveAs kind u (joint .base) (context .h) (context .«inv_h») (ab .«state_a») (ab .«state_b») useBias) ≡ directCall (solve kind context useBias) joint s
-  solved context useBias h =
-      by-stage (solve kind context useBias) refl (λ a b. solveAs kind u (joint .base) (context .h) (context .«inv_h») a b useBias) h
+  pub solved : (kind : ℕ) (context : StepContext) (useBias : Bool) → T (not (not (eqb (number (solve kind context useBias)) 0)))
+      → let ab = readStates (p (solve kind context useBias)) s in
+      leaves (solve kind context useBias) (solveAs kind u (joint .base) (context .h) (context .«inv_h») (ab .«state_a») (ab .«state_b») useBias) ≡ directCall (solve kind context useBias) joint s
+  solved kind context useBias h =
+      by-stage (solve kind context useBias) (λ a b. solveAs kind u (joint .base) (context .h) (context .«inv_h») a b useBias) h
       (solve-as kind u (joint .base) (context .h) (context .«inv_h») (stateAt s (indexA u)) (stateAt s (indexB u)) useBias)

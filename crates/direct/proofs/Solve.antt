@@ -61,14 +61,14 @@ use Rattle.joint.proofs.store.StatePair.Laws as Tq′
 use Rattle.direct.proofs.Answer.Laws as Tw′
 use Rattle.direct.proofs.places.Places.Laws as Tp′
 use Rattle.direct.proofs.Rows.{R, J, X, G, Wn, val-j, vals-j, tells-j, made-j, typed-j, val-x, vals-x, tells-x, made-x, typed-x, x-h, x-inv-h, val-g, vals-g, typed-g, g-velocities, typed-p, p-answer, typed-q, q-state-a, q-state-b, val-w, vals-w, made-w, typed-w}
-use Rattle.direct.proofs.Pieces.{slot, lends, answers, joint-mir}
+use Rattle.direct.proofs.Pieces.{refTo, lends, answers, joint-mir}
 use Rattle.direct.proofs.Calls.{Read, Write, calls-read, calls-write}
-use Rattle.direct.proofs.Stages.{Find, SolveAs, Left, calls-find, calls-solve, calls-left}
-use Rattle.direct.proofs.Planned.{write-long, leaves, turned-away, solved}
+use Rattle.direct.proofs.Stages.{Find, SolveAs, StagedJoint, calls-find, calls-solve, calls-staged}
+use Rattle.direct.proofs.Planned.{write-long, leaves, refuses, solved}
 use Rattle.direct.proofs.places.find_places.Symbol.{name as #find}
 use Rattle.direct.proofs.states.read_states.Symbol.{name as #read}
 use Rattle.direct.proofs.states.write_states.Symbol.{name as #write}
-use Rattle.joint.proofs.stage.staged_joint.Symbol.{name as #left}
+use Rattle.joint.proofs.stage.staged_joint.Symbol.{name as #staged}
 
 abbrev pub signature : Signature
 signature = record { lifetimes = 2; outlives = []; params = RefMutOf (0 ∷ []) tt (plain (λ _. J)) (λ _. tt) ∷ plain (λ _. X) ∷ SliceRefMutOf (1 ∷ []) tt (plain (λ _. R)) (λ _. tt) ∷ plain (λ _. bool) ∷ []; result = plain (λ _. Wn) }
@@ -97,7 +97,7 @@ works τj #stage =
     (seq (assign (place 9 []) (rvOpd (copy (place 1 (deref τj ∷ [])))))
     (seq (call #stage (copy (place 9 []) ∷ copy (place 2 (field 2 ∷ [])) ∷ copy (place 2 (field 3 ∷ [])) ∷ copy (place 7 (field 0 ∷ [])) ∷ copy (place 7 (field 1 ∷ [])) ∷ copy (place 4 []) ∷ []) (place 8 []))
     (seq (assign (place 13 []) (rvOpd (copy (place 1 (deref τj ∷ [])))))
-    (seq (call #left (copy (place 13 []) ∷ copy (place 8 []) ∷ []) (place 9 []))
+    (seq (call #staged (copy (place 13 []) ∷ copy (place 8 []) ∷ []) (place 9 []))
     (seq (assign (place 1 (deref τj ∷ [])) (rvOpd (copy (place 9 []))))
     (lends 3 15 16
     (seq (call #write (copy (place 16 []) ∷ copy (place 6 []) ∷ copy (place 8 (field 1 ∷ [])) ∷ []) (place 14 [])) (answers 6)))))))))
@@ -109,7 +109,7 @@ function τj νg τg k #stage = record {
   params = 4;
   locals = local Tw′.mir valueLocal ∷ local (tyRef (named 0) mut (pointee (J .written))) valueLocal ∷ local Tx′.mir valueLocal ∷ local (sliceTy (tyRef (named 1) mut (pointee (R .written)))) valueLocal ∷ local tyBool valueLocal
       ∷ local (tyInt w64) valueLocal ∷ local Tp′.mir valueLocal ∷ local Tq′.mir valueLocal ∷ local (tyStruct νg τg) valueLocal ∷ local τj valueLocal ∷ local tyBool valueLocal
-      ∷ local (slot (pointee (R .written))) valueLocal ∷ local (sliceTy (slot (pointee (R .written)))) valueLocal ∷ local τj valueLocal ∷ local tyUnit valueLocal ∷ local (slot (pointee (R .written))) valueLocal ∷ local (sliceTy (slot (pointee (R .written)))) valueLocal ∷ [];
+      ∷ local (refTo (pointee (R .written))) valueLocal ∷ local (sliceTy (refTo (pointee (R .written)))) valueLocal ∷ local τj valueLocal ∷ local tyUnit valueLocal ∷ local (refTo (pointee (R .written))) valueLocal ∷ local (sliceTy (refTo (pointee (R .written)))) valueLocal ∷ [];
   body = seq (assign (place 5 []) (rvOpd (copy (place 3 (field 1 ∷ [])))))
       (seq (assign (place 9 []) (rvOpd (copy (place 1 (deref τj ∷ [])))))
       (seq (call #find (int w8 k ∷ copy (place 9 []) ∷ copy (place 5 []) ∷ []) (place 6 []))
@@ -168,10 +168,10 @@ module _ {M : Type 1} (𝓤 : URA M) (H : Heap 𝓤) (A : Atoms 𝓤) (W : Given
   module _ (τj : Ty) (νg : Sym) (τg : Tys) {dg : ℕ} (eg : fieldAt 0 τg 1 ≡ some (Tv′.mir, dg)) (J-mir : J .mir ≡ τj ∷ []) (j-typed : (y : JointSim) → Is J y (vals-j y) → T (hasTy τj (val-j y)) × WT (val-j y)) (g-typed : Is G st (vals-g st) → T (hasTy (tyStruct νg τg) (val-g st)) × WT (val-g st)) (Post : Val → SProp 𝓤)
       (refuses : Is Wn (pl .answer) (vals-w (pl .answer)) → T (not (eqb (pl .answer .number) 0)) → ent 𝓤 (⋆ 𝓤 H A (Handed h ys)) (Post (val-w (pl .answer))))
       (ends : Is Wn (pl .answer) (vals-w (pl .answer)) → T (not (not (eqb (pl .answer .number) 0))) → ent 𝓤 (⋆ 𝓤 H A (Handed left (writeStates pl (st .velocities) ys))) (Post (val-w (pl .answer))))
-      (#stage : Name) (C : Calls 𝓤 H) (Λ : Loops 𝓤 H) (fm : FmC 𝓤 H (W .laws) C) (known-find : Triple 𝓤 (C #find) (Find 𝓤 H A mem run)) (known-read : Triple 𝓤 (C #read) (Read 𝓤 H A mem run)) (known-stage : Triple 𝓤 (C #stage) (SolveAs 𝓤 H A k)) (known-left : Triple 𝓤 (C #left) (Left 𝓤 H A mem run)) (known-write : Triple 𝓤 (C #write) (Write 𝓤 H A mem run)) where
+      (#stage : Name) (C : Calls 𝓤 H) (Λ : Loops 𝓤 H) (fm : FmC 𝓤 H (W .laws) C) (known-find : Triple 𝓤 (C #find) (Find 𝓤 H A mem run)) (known-read : Triple 𝓤 (C #read) (Read 𝓤 H A mem run)) (known-stage : Triple 𝓤 (C #stage) (SolveAs 𝓤 H A k)) (known-staged : Triple 𝓤 (C #staged) (StagedJoint 𝓤 H A mem run)) (known-write : Triple 𝓤 (C #write) (Write 𝓤 H A mem run)) where
     abbrev En : ℕ → ℕ → ℕ → ℕ → ℕ → ℕ → ℕ → ℕ → ℕ → ℕ → ℕ → ℕ → ℕ → ℕ → ℕ → ℕ → ℕ → Env 𝓤 H
     En l₀ l₁ l₂ l₃ l₄ l₅ l₆ l₇ l₈ l₉ l₁₀ l₁₁ l₁₂ l₁₃ l₁₄ l₁₅ l₁₆ = (Tw′.mir, l₀) ∷ (tyRef (named 0) mut (pointee (J .written)), l₁) ∷ (Tx′.mir, l₂) ∷ (sliceTy (tyRef (named 1) mut (pointee (R .written))), l₃) ∷ (tyBool, l₄) ∷ (tyInt w64, l₅) ∷ (Tp′.mir, l₆) ∷ (Tq′.mir, l₇) ∷ (tyStruct νg τg, l₈) ∷ (τj, l₉) ∷ (tyBool, l₁₀)
-        ∷ (slot (pointee (R .written)), l₁₁) ∷ (sliceTy (slot (pointee (R .written))), l₁₂) ∷ (τj, l₁₃) ∷ (tyUnit, l₁₄) ∷ (slot (pointee (R .written)), l₁₅) ∷ (sliceTy (slot (pointee (R .written))), l₁₆) ∷ []
+        ∷ (refTo (pointee (R .written)), l₁₁) ∷ (sliceTy (refTo (pointee (R .written))), l₁₂) ∷ (τj, l₁₃) ∷ (tyUnit, l₁₄) ∷ (refTo (pointee (R .written)), l₁₅) ∷ (sliceTy (refTo (pointee (R .written))), l₁₆) ∷ []
 
     walk : ent 𝓤 (sep 𝓤 (sep 𝓤 (A .lft κ q) (sep 𝓤 (A .lft κ′ q′) (sem 𝓤 H A ftrue))) (sem 𝓤 H A (owns (MutRef (named 0) κ J ∷ X ∷ MutSlice (named 1) κ′ R ∷ bool ∷ []) a at))) (WpFn 𝓤 H C Λ (function τj νg τg k #stage) (vptr b o ∷ val-x ctx ∷ s ∷ vbool u ∷ []) Post)
     walk =
@@ -205,7 +205,7 @@ module _ {M : Type 1} (𝓤 : URA M) (H : Heap 𝓤) (A : Atoms 𝓤) (W : Given
         assigns ! (of-opd ! (load ! (from ! (hop ! (look ! 36 refl) (stop !))) (look-raw ! 2 refl))) (from ! (stop !)) (store ! 20 refl (j-typed h j-is)) $
         calls-solve 𝓤 H A W k h (ctx .h) (ctx .«inv_h») (ab .«state_a») (ab .«state_b») u j-is (x-h ctx x-is) (x-inv-h ctx x-is) (q-state-a ab q-is) (q-state-b ab q-is) ! fm known-stage (and-then ! (load ! (from ! (stop !)) (look ! 21 refl)) (and-then ! (load ! (from ! (fld ! refl (stop !))) (look-in ! 35 (sub ! 2 refl (whole !)))) (and-then ! (load ! (from ! (fld ! refl (stop !))) (look-in ! 35 (sub ! 3 refl (whole !)))) (and-then ! (load ! (from ! (fld ! refl (stop !))) (look-in ! 25 (sub ! 0 refl (whole !)))) (and-then ! (load ! (from ! (fld ! refl (stop !))) (look-in ! 25 (sub ! 1 refl (whole !)))) (and-then ! (load ! (from ! (stop !)) (look ! 31 refl)) (no-more !))))))) (λ g-is. land ! (from ! (stop !)) (init ! 22 refl (g-typed g-is)) $
         assigns ! (of-opd ! (load ! (from ! (hop ! (look ! 36 refl) (stop !))) (look-raw ! 2 refl))) (from ! (stop !)) (init ! 12 refl (j-typed h j-is)) $
-        calls-left 𝓤 H A W mem run h st j-is g-is ! fm known-left (and-then ! (load ! (from ! (stop !)) (look ! 13 refl)) (and-then ! (load ! (from ! (stop !)) (look ! 23 refl)) (no-more !))) (λ l-is. land ! (from ! (stop !)) (store ! 20 refl (j-typed left l-is)) $
+        calls-staged 𝓤 H A W mem run h st j-is g-is ! fm known-staged (and-then ! (load ! (from ! (stop !)) (look ! 13 refl)) (and-then ! (load ! (from ! (stop !)) (look ! 23 refl)) (no-more !))) (λ l-is. land ! (from ! (stop !)) (store ! 20 refl (j-typed left l-is)) $
         assigns ! (of-opd ! (load ! (from ! (stop !)) (look ! 20 refl))) (from ! (hop ! (look ! 36 refl) (stop !))) (store-raw ! 2 refl (j-typed left l-is)) $
         assigns ! (addr ! (from ! (fld ! refl (hop ! (look-in ! 32 (sub ! 0 refl (whole !))) (stop !))))) (from ! (stop !)) (init ! 8 refl (tt, tt)) $
         assigns ! (agg ! (and-then ! (load ! (from ! (stop !)) (look ! 8 refl)) (and-then ! (load ! (from ! (fld ! refl (stop !))) (look-in ! 32 (sub ! 1 refl (whole !)))) (no-more !)))) (from ! (stop !)) (init ! 6 refl (tt, (tt, (record { fits = room .0 }, tt)))) $
@@ -226,9 +226,9 @@ abbrev code : ℕ → Name → Fn
 code k #stage = function Tj′.mir (Tg.the-type .name) staged-fields k #stage
 
 module _ {M : Type 1} (𝓤 : URA M) (H : Heap 𝓤) (A : Atoms 𝓤) (W : Given 𝓤 H A) (mem : Memory → SProp 𝓤) (run : Routine → Fun 𝓤) (k : ℕ) (k-fits : T (ltb k (2 ^ 8))) (#stage : Name) where
-  walks : (C : Calls 𝓤 H) (Λ : Loops 𝓤 H) → FmC 𝓤 H (W .laws) C → Triple 𝓤 (C #find) (Find 𝓤 H A mem run) → Triple 𝓤 (C #read) (Read 𝓤 H A mem run) → Triple 𝓤 (C #stage) (SolveAs 𝓤 H A k) → Triple 𝓤 (C #left) (Left 𝓤 H A mem run) → Triple 𝓤 (C #write) (Write 𝓤 H A mem run)
+  walks : (C : Calls 𝓤 H) (Λ : Loops 𝓤 H) → FmC 𝓤 H (W .laws) C → Triple 𝓤 (C #find) (Find 𝓤 H A mem run) → Triple 𝓤 (C #read) (Read 𝓤 H A mem run) → Triple 𝓤 (C #stage) (SolveAs 𝓤 H A k) → Triple 𝓤 (C #staged) (StagedJoint 𝓤 H A mem run) → Triple 𝓤 (C #write) (Write 𝓤 H A mem run)
       → Walks 𝓤 H A ended stayed (WpFn 𝓤 H C Λ (code k #stage)) (clauses k 𝓤)
-  walks C Λ fm known-find known-read known-stage known-left known-write = walked 𝓤 H A ended stayed (clauses k 𝓤) (WpFn 𝓤 H C Λ (code k #stage))
+  walks C Λ fm known-find known-read known-stage known-staged known-write = walked 𝓤 H A ended stayed (clauses k 𝓤) (WpFn 𝓤 H C Λ (code k #stage))
       (λ κs. (ptr-vals, (vals-x, (slice-vals, (bool-vals, tt))))) (λ κs. (mut-tells (named 0) (κs .0) J, (tells-x, (mut-slice-tells (named 1) (κs .1 .0) R, (bool-tells, tt)))))
       (λ κs qs bounds a g are. via 𝓤 _ (fst∗ 𝓤 _ (emp 𝓤)) (one (κs .0) (κs .1 .0) bounds (qs .0) (qs .1 .0) (a .0 .ptr .0) (a .0 .ptr .1) (a .0 .name) (a .0 .now) (a .1 .0) (a .1 .1 .0 .ptr .0) (a .1 .1 .0 .ptr .1) (a .1 .1 .0 .name) (a .1 .1 .0 .now) (a .1 .1 .1 .0) (are .1 .1 .0 .0 .1) (are .1 .0)))
     where
@@ -242,13 +242,13 @@ module _ {M : Type 1} (𝓤 : URA M) (H : Heap 𝓤) (A : Atoms 𝓤) (W : Given
           let st = solveAs k (h .«union_») (h .base) (ctx .h) (ctx .«inv_h») (ab .«state_a») (ab .«state_b») u in
           let out = exits 𝓤 H A W mem run k k-fits κ κ′ q q′ b o γ h ctx b′ o′ γ′ ys u room x-is bounds in
           walk 𝓤 H A W mem run k k-fits κ κ′ q q′ b o γ h ctx b′ o′ γ′ ys u room x-is Tj′.mir (Tg.the-type .name) staged-fields refl joint-mir (typed-j 𝓤 H A W) (typed-g 𝓤 H A W st) (Post 𝓤 H A W mem run k k-fits κ κ′ q q′ b o γ h ctx b′ o′ γ′ ys u room x-is bounds)
-          (λ w-is no. out (refused (pl .answer .number) h ys) (turned-away h ys k (solve k ctx u) refl no) refl w-is)
-          (λ w-is yes. out (leaves h ys k st) (solved h ys k ctx u yes) (write-long pl (st .velocities) ys) w-is)
-          #stage C Λ fm known-find known-read known-stage known-left known-write
+          (λ w-is no. out (refused (pl .answer .number) h ys) (refuses h ys (solve k ctx u) no) refl w-is)
+          (λ w-is yes. out (leaves h ys (solve k ctx u) st) (solved h ys k ctx u yes) (write-long pl (st .velocities) ys) w-is)
+          #stage C Λ fm known-find known-read known-stage known-staged known-write
 
 pub meets : (k : ℕ) (k-fits : T (ltb k (2 ^ 8))) (#stage : Name) {M : Type 1} (𝓤 : URA M) (H : Heap 𝓤) (A : Atoms 𝓤) → Given 𝓤 H A → (mem : Memory → SProp 𝓤) (run : Routine → Fun 𝓤) (𝓣 : Tables 𝓤 H)
-    → Triple 𝓤 (𝓣 .C #find) (Find 𝓤 H A mem run) → Triple 𝓤 (𝓣 .C #read) (Read 𝓤 H A mem run) → Triple 𝓤 (𝓣 .C #stage) (SolveAs 𝓤 H A k) → Triple 𝓤 (𝓣 .C #left) (Left 𝓤 H A mem run) → Triple 𝓤 (𝓣 .C #write) (Write 𝓤 H A mem run)
+    → Triple 𝓤 (𝓣 .C #find) (Find 𝓤 H A mem run) → Triple 𝓤 (𝓣 .C #read) (Read 𝓤 H A mem run) → Triple 𝓤 (𝓣 .C #stage) (SolveAs 𝓤 H A k) → Triple 𝓤 (𝓣 .C #staged) (StagedJoint 𝓤 H A mem run) → Triple 𝓤 (𝓣 .C #write) (Write 𝓤 H A mem run)
     → Meets 𝓤 H A signature (WpFn 𝓤 H (𝓣 .C) (𝓣 .Λ) (code k #stage)) (closing 𝓤 H A ended (clauses k 𝓤))
-meets k k-fits #stage 𝓤 H A W mem run 𝓣 known-find known-read known-stage known-left known-write =
+meets k k-fits #stage 𝓤 H A W mem run 𝓣 known-find known-read known-stage known-staged known-write =
     walk-meets 𝓤 H A ended stayed W (goes-ref 𝓤 H A W 2 0 tt (plain (λ _. J)), (goes-none 𝓤 H A W 2 (λ _. X) yes (λ κs x f. refl), (goes-slice 𝓤 H A W 2 1 tt (plain (λ _. R)), (goes-none 𝓤 H A W 2 (λ _. bool) yes (λ κs x f. refl), tt)))) (clauses k 𝓤)
-    (WpFn 𝓤 H (𝓣 .C) (𝓣 .Λ) (code k #stage)) (WpFn-mono 𝓤 H (W .laws) 𝓣 (code k #stage)) (walks 𝓤 H A W mem run k k-fits #stage (𝓣 .C) (𝓣 .Λ) (fmOf 𝓤 H (W .laws) 𝓣) known-find known-read known-stage known-left known-write)
+    (WpFn 𝓤 H (𝓣 .C) (𝓣 .Λ) (code k #stage)) (WpFn-mono 𝓤 H (W .laws) 𝓣 (code k #stage)) (walks 𝓤 H A W mem run k k-fits #stage (𝓣 .C) (𝓣 .Λ) (fmOf 𝓤 H (W .laws) 𝓣) known-find known-read known-stage known-staged known-write)

@@ -54,10 +54,10 @@ use Rattle.joint.proofs.store.StatePair.Laws as Tq′
 use Rattle.direct.proofs.Answer.Laws as Tw′
 use Rattle.direct.proofs.places.Places.Laws as Tp′
 use Rattle.direct.proofs.Rows.{R, J, Wn, val-j, vals-j, tells-j, made-j, typed-j, typed-p, p-answer, typed-q, q-state-a, q-state-b, typed-v, val-w, vals-w, made-w, typed-w}
-use Rattle.direct.proofs.Pieces.{slot, lends, answers, joint-mir}
+use Rattle.direct.proofs.Pieces.{refTo, lends, answers, joint-mir}
 use Rattle.direct.proofs.Calls.{Read, Write, calls-read, calls-write}
 use Rattle.direct.proofs.Stages.{Find, WarmStartAs, calls-find, calls-warm-start}
-use Rattle.direct.proofs.Planned.{write-long, leaves, turned-away, warm-started}
+use Rattle.direct.proofs.Planned.{write-long, leaves, refuses, warm-started}
 use Rattle.direct.proofs.places.find_places.Symbol.{name as #find}
 use Rattle.direct.proofs.states.read_states.Symbol.{name as #read}
 use Rattle.direct.proofs.states.write_states.Symbol.{name as #write}
@@ -98,7 +98,7 @@ function τj k #stage = record {
   params = 2;
   locals = local Tw′.mir valueLocal ∷ local (tyRef (named 0) mut (pointee (J .written))) valueLocal ∷ local (sliceTy (tyRef (named 1) mut (pointee (R .written)))) valueLocal
       ∷ local (tyInt w64) valueLocal ∷ local Tp′.mir valueLocal ∷ local Tq′.mir valueLocal ∷ local Tv′.mir valueLocal ∷ local τj valueLocal ∷ local tyBool valueLocal
-      ∷ local (slot (pointee (R .written))) valueLocal ∷ local (sliceTy (slot (pointee (R .written)))) valueLocal ∷ local tyUnit valueLocal ∷ local (slot (pointee (R .written))) valueLocal ∷ local (sliceTy (slot (pointee (R .written)))) valueLocal ∷ [];
+      ∷ local (refTo (pointee (R .written))) valueLocal ∷ local (sliceTy (refTo (pointee (R .written)))) valueLocal ∷ local tyUnit valueLocal ∷ local (refTo (pointee (R .written))) valueLocal ∷ local (sliceTy (refTo (pointee (R .written)))) valueLocal ∷ [];
   body = seq (assign (place 3 []) (rvOpd (copy (place 2 (field 1 ∷ [])))))
       (seq (assign (place 7 []) (rvOpd (copy (place 1 (deref τj ∷ [])))))
       (seq (call #find (int w8 k ∷ copy (place 7 []) ∷ copy (place 3 []) ∷ []) (place 4 []))
@@ -157,7 +157,7 @@ module _ {M : Type 1} (𝓤 : URA M) (H : Heap 𝓤) (A : Atoms 𝓤) (W : Given
       (#stage : Name) (C : Calls 𝓤 H) (Λ : Loops 𝓤 H) (fm : FmC 𝓤 H (W .laws) C) (known-find : Triple 𝓤 (C #find) (Find 𝓤 H A mem run)) (known-read : Triple 𝓤 (C #read) (Read 𝓤 H A mem run)) (known-stage : Triple 𝓤 (C #stage) (WarmStartAs 𝓤 H A k)) (known-write : Triple 𝓤 (C #write) (Write 𝓤 H A mem run)) where
     abbrev En : ℕ → ℕ → ℕ → ℕ → ℕ → ℕ → ℕ → ℕ → ℕ → ℕ → ℕ → ℕ → ℕ → ℕ → Env 𝓤 H
     En l₀ l₁ l₂ l₃ l₄ l₅ l₆ l₇ l₈ l₉ l₁₀ l₁₁ l₁₂ l₁₃ = (Tw′.mir, l₀) ∷ (tyRef (named 0) mut (pointee (J .written)), l₁) ∷ (sliceTy (tyRef (named 1) mut (pointee (R .written))), l₂) ∷ (tyInt w64, l₃) ∷ (Tp′.mir, l₄) ∷ (Tq′.mir, l₅) ∷ (Tv′.mir, l₆) ∷ (τj, l₇) ∷ (tyBool, l₈)
-        ∷ (slot (pointee (R .written)), l₉) ∷ (sliceTy (slot (pointee (R .written))), l₁₀) ∷ (tyUnit, l₁₁) ∷ (slot (pointee (R .written)), l₁₂) ∷ (sliceTy (slot (pointee (R .written))), l₁₃) ∷ []
+        ∷ (refTo (pointee (R .written)), l₉) ∷ (sliceTy (refTo (pointee (R .written))), l₁₀) ∷ (tyUnit, l₁₁) ∷ (refTo (pointee (R .written)), l₁₂) ∷ (sliceTy (refTo (pointee (R .written))), l₁₃) ∷ []
 
     walk : ent 𝓤 (sep 𝓤 (sep 𝓤 (A .lft κ q) (sep 𝓤 (A .lft κ′ q′) (sem 𝓤 H A ftrue))) (sem 𝓤 H A (owns (MutRef (named 0) κ J ∷ MutSlice (named 1) κ′ R ∷ []) a at))) (WpFn 𝓤 H C Λ (function τj k #stage) (vptr b o ∷ s ∷ []) Post)
     walk =
@@ -221,8 +221,8 @@ module _ {M : Type 1} (𝓤 : URA M) (H : Heap 𝓤) (A : Atoms 𝓤) (W : Given
           let v = warmStartAs k (h .«union_») (h .base) (ab .«state_a») (ab .«state_b») in
           let out = exits 𝓤 H A W mem run k k-fits κ κ′ q q′ b o γ h b′ o′ γ′ ys room bounds in
           walk 𝓤 H A W mem run k k-fits κ κ′ q q′ b o γ h b′ o′ γ′ ys room Tj′.mir joint-mir (typed-j 𝓤 H A W h) (Post 𝓤 H A W mem run k k-fits κ κ′ q q′ b o γ h b′ o′ γ′ ys room bounds)
-          (λ w-is no. out (refused (pl .answer .number) h ys) (turned-away h ys k (warmStart k) refl no) refl refl w-is)
-          (λ w-is yes. out (leaves h ys k (staged (h .«union_») v)) (warm-started h ys k yes) refl (write-long pl v ys) w-is)
+          (λ w-is no. out (refused (pl .answer .number) h ys) (refuses h ys (warmStart k) no) refl refl w-is)
+          (λ w-is yes. out (leaves h ys (warmStart k) (staged (h .«union_») v)) (warm-started h ys k yes) refl (write-long pl v ys) w-is)
           #stage C Λ fm known-find known-read known-stage known-write
 
 pub meets : (k : ℕ) (k-fits : T (ltb k (2 ^ 8))) (#stage : Name) {M : Type 1} (𝓤 : URA M) (H : Heap 𝓤) (A : Atoms 𝓤) → Given 𝓤 H A → (mem : Memory → SProp 𝓤) (run : Routine → Fun 𝓤) (𝓣 : Tables 𝓤 H)

@@ -4,13 +4,12 @@ use mathlib.Core.Logic.{inl, inr, _≢_}
 use mathlib.Core.Bool.{Bool, true, false, cond}
 use mathlib.Core.List.{List, [], _∷_}
 use Prim.Native.Nat.{ℕ, zero, suc, _≤_, _<_}
-use native.Mathlib.Nat.{le-of-suc-le-suc, not-suc-le-zero}
 use native.Mathlib.Omega.{arith}
 use lib.Dec.{eqb}
 use lib.Ieee.{Float}
 use lib.IntN.{ℤ, pos, negsuc}
 use lib.ListN.{length, getD, set, take}
-use lib.Seq.{getD-set-same, length-take-le}
+use lib.Seq.{getD-set-same, length-take-le, take-set-lt, getD-take}
 use borrow.Author.Tests.{eq-eqb, ne-eqb, eqb-true, eqb-false, le-ltb, lt-leb, leb-false}
 use Rattle.math_functions.specs.declared.types.Vec3.{Vec3}
 use Rattle.solver.specs.declared.StepContext.{StepContext}
@@ -32,32 +31,21 @@ use Rattle.scene.specs.Plain as Plain
 use Rattle.scene.specs.Plain.{verdictOf, earlyCause, verdict, storeBoth, step, plainRun}
 use Rattle.scene.specs.Accepted.{run-accepted, run-refused}
 use Rattle.direct.specs.declared.call.Call.{Call}
-use Rattle.direct.specs.Direct.{isOfKind, cause, Outcome, refused, done, stageAt, directCall}
+use Rattle.direct.specs.Direct.{isOfKind, cause, Outcome, stageAt, directCall}
+use Rattle.direct.specs.Outcomes.{its-cause, worked-is, refused-is}
 use Rattle.direct.specs.Claims.{callOf, counted, Callable, OfKind, SameEnd}
 
 -- ---- the counted part of a list
 
-getD-take : (l : List BodyState) (n k : ℕ) (d : BodyState) → k < n → getD (take n l) k d ≡ getD l k d
-getD-take l zero k d h = absurd (not-suc-le-zero h)
-getD-take [] (suc n) k d h = refl
-getD-take (x ∷ l) (suc n) zero d h = refl
-getD-take (x ∷ l) (suc n) (suc k) d h = getD-take l n k d (le-of-suc-le-suc h)
-
-take-set : (l : List BodyState) (n k : ℕ) (x : BodyState) → k < n → take n (set l k x) ≡ set (take n l) k x
-take-set l zero k x h = absurd (not-suc-le-zero h)
-take-set [] (suc n) k x h = refl
-take-set (y ∷ l) (suc n) zero x h = refl
-take-set (y ∷ l) (suc n) (suc k) x h = ap (λ r. y ∷ r) (take-set l n k x (le-of-suc-le-suc h))
-
 take-state : (l : List BodyState) (n : ℕ) (i : ℤ) → badIndex n i ≡ false → stateAt (take n l) i ≡ stateAt l i
-take-state l n (pos k) e = getD-take l n k identityBodyState (leb-false n k e)
+take-state l n (pos k) e = getD-take n l k identityBodyState (leb-false n k e)
 take-state l n (negsuc k) e = refl
 
 take-store : (l : List BodyState) (n : ℕ) (i : ℤ) (v w : Vec3) → badIndex n i ≡ false → take n (store l i v w) ≡ store (take n l) i v w
 unfolding store
 take-store l n (pos k) v w e =
     let h = leb-false n k e in
-    take-set l n k (storeVelocities (getD l k identityBodyState) v w) h ∙ ap (λ x. set (take n l) k (storeVelocities x v w)) (sym (getD-take l n k identityBodyState h))
+    take-set-lt n l k (storeVelocities (getD l k identityBodyState) v w) h ∙ ap (λ x. set (take n l) k (storeVelocities x v w)) (sym (getD-take n l k identityBodyState h))
 take-store l n (negsuc k) v w e = refl
 
 -- ---- the tests of a call of a list and of a direct call
@@ -123,7 +111,7 @@ module _ (s : Scene) (slot stage kind : ℕ) (ok : Callable s slot stage) (of : 
   abbrev k : ℕ
   k = Plain.cause s (call slot stage)
 
-  same-cause : k ≡ cause (direct .kind) u (length (counted s))
+  same-cause : k ≡ its-cause direct joint (counted s)
   unfolding Plain.cause cause
   same-cause = rw (long, kind-of kind stage (s .context), lt-leb (s .«joint_count») slot (ok .slot-counted), le-ltb 2 stage (ok .stage-known)) (by-kind kind u (indexCause n u) of)
 
@@ -164,14 +152,6 @@ module _ (s : Scene) (slot stage kind : ℕ) (ok : Callable s slot stage) (of : 
       let f : verdict s (slot ∷ stage ∷ []) ≡ verdictOf 0 0 = its-verdict ∙ rw (eq-eqb k 0 e) in
       run-accepted s (slot ∷ stage ∷ []) (ap (λ v. v .number) f)
 
-  worked : k ≡ 0 → outcome ≡ done joint (counted s) (stageAt direct joint (counted s))
-  unfolding directCall
-  worked e = rw (sym same-cause ∙ e)
-
-  turned-away : k ≢ 0 → outcome ≡ refused k joint (counted s)
-  unfolding directCall
-  turned-away ne = rw (← same-cause, ne-eqb k 0 ne)
-
   stopped : k ≢ 0 → plainRun s (slot ∷ stage ∷ []) ≡ Plain.refused (verdictOf k 0) s
   stopped ne =
       let e : verdict s (slot ∷ stage ∷ []) ≡ verdictOf k 0 = its-verdict ∙ rw (ne-eqb k 0 ne) in
@@ -185,7 +165,7 @@ module _ (s : Scene) (slot stage kind : ℕ) (ok : Callable s slot stage) (of : 
       by true t =
           let e = eqb-true k 0 t in
           let r = ran e in
-          let o = worked e in
+          let o = worked-is direct joint (counted s) (sym same-cause ∙ e) in
           let g = same-staged e in
           record {
             number = ap (λ x. x .number) r ∙ sym (ap (λ x. x .answer .number) o);
@@ -199,9 +179,9 @@ module _ (s : Scene) (slot stage kind : ℕ) (ok : Callable s slot stage) (of : 
       by false t =
           let ne = eqb-false k 0 t in
           let r = stopped ne in
-          let o = turned-away ne in
+          let o = refused-is direct joint (counted s) (λ z. ne (same-cause ∙ z)) in
           record {
-            number = ap (λ x. x .number) r ∙ sym (ap (λ x. x .answer .number) o);
+            number = ap (λ x. x .number) r ∙ same-cause ∙ sym (ap (λ x. x .answer .number) o);
             place = ap (λ x. x .place) r ∙ sym (ap (λ x. x .answer .place) o);
             joint = ap (λ x. jointAt (x .scene) slot) r ∙ sym (ap (λ x. x .joint) o);
             states = ap (λ x. counted (x .scene)) r ∙ sym (ap (λ x. x .states) o);

@@ -7,7 +7,7 @@ use Prim.Native.Nat.{ℕ}
 use native.Mathlib.Omega.{arith}
 use lib.Dec.{eqb}
 use lib.ListN.{length}
-use borrow.Author.Tests.{eqb-true, eqb-false}
+use borrow.Author.Tests.{eqb-true, eqb-false, not-true, not-false}
 use Rattle.records.specs.declared.body.BodyState.{BodyState}
 use Rattle.records.specs.declared.joint.JointSim.{JointSim}
 use Rattle.records.specs.declared.joint.JointUnion.{JointUnion}
@@ -19,46 +19,24 @@ use Rattle.scene.specs.Scene.{stateAt, store}
 use Rattle.scene.specs.Plain.{verdictOf, storeBoth}
 use Rattle.scene.specs.Claims.{LimitsNonNegative}
 use Rattle.scene.specs.Stages.{stage-keeps, warm-keeps, solve-limits}
-use Rattle.scene.specs.Stores.{both-rest}
+use Rattle.scene.specs.Stores.{store-long, both-rest}
 use Rattle.scene.specs.Framed.{only-impulses}
 use Rattle.scene.specs.Changes.{not-stored, only-velocities}
-use Rattle.scene.specs.Accepted.{Says, says-other, says-index, Answers, answers-nil, answers-test, answers-numbers, answers-none}
+use Rattle.scene.specs.Accepted.{Says, says-of, says-other, says-index, Answers, answers-nil, answers-test, answers-numbers, answers-none}
 use Rattle.direct.specs.declared.call.Call.{Call}
-use Rattle.direct.specs.Direct.{isOfKind, cause, Outcome, answerOf, refused, done, stageAt, directCall, warmStart, solve}
+use Rattle.direct.specs.Direct.{isOfKind, cause, refused, done, stageAt, warmStart, solve}
 use Rattle.direct.specs.Claims.{Cause1, tests, Numbers, Acceptance, Refusal, OnlyChanges, Changes, WarmStartKeeps, PairStored, OneCall, Limits}
-use Rattle.direct.specs.Stored.{store-long, pair-at}
+use Rattle.direct.specs.Outcomes.{its-cause, by-outcome, answer-is}
+use Rattle.direct.specs.Stored.{pair-at}
 use Rattle.direct.specs.OneCall.{same-end}
-
--- ---- a call is worked, or refused
-
-module _ (call : Call) (joint : JointSim) (states : List BodyState) where
-  abbrev its-cause : ℕ
-  its-cause = cause (call .kind) (joint .«union_») (length states)
-
-  by-outcome : (P : Outcome → Type 0) → P (done joint states (stageAt call joint states)) → (its-cause ≢ 0 → P (refused its-cause joint states)) → P (directCall call joint states)
-  unfolding directCall
-  by-outcome P worked turned-away = by (eqb its-cause 0) refl
-    where
-      by : (b : Bool) → eqb its-cause 0 ≡ b → P (cond b (done joint states (stageAt call joint states)) (refused its-cause joint states))
-      by true e = worked
-      by false e = turned-away (eqb-false its-cause 0 e)
-
-  answer-is : directCall call joint states .answer ≡ answerOf its-cause
-  unfolding directCall
-  answer-is = by (eqb its-cause 0) refl
-    where
-      by : (b : Bool) → eqb its-cause 0 ≡ b → cond b (done joint states (stageAt call joint states)) (refused its-cause joint states) .answer ≡ answerOf its-cause
-      by true e = ap answerOf (sym (eqb-true its-cause 0 e))
-      by false e = refl
 
 -- ---- numbers
 
 says-kind : (kind c : ℕ) (u : JointUnion) → caseOf u ≡ c → u ≢ Other → Says (not (eqb kind c)) (Cause1 kind u)
-says-kind kind c u is three = by (eqb kind c) refl
-  where
-    by : (b : Bool) → eqb kind c ≡ b → Says (not b) (Cause1 kind u)
-    by true e = ⊎-elim (λ ne. ne (is ∙ sym (eqb-true kind c e))) three
-    by false e = inl (λ p. eqb-false kind c e (sym p ∙ is))
+says-kind kind c u is three =
+    says-of (not (eqb kind c))
+    (λ e. inl (λ p. eqb-false kind c (not-true (eqb kind c) e) (sym p ∙ is)))
+    (λ e. ⊎-elim (λ ne. ne (is ∙ sym (eqb-true kind c (not-false (eqb kind c) e)))) three)
 
 says-1 : (kind : ℕ) (u : JointUnion) → Says (not (isOfKind kind u)) (Cause1 kind u)
 says-1 kind (Revolute r) = says-kind kind 0 (Revolute r) refl (says-other (Revolute r))
@@ -100,12 +78,12 @@ acceptance call joint states =
 
 pub refusal : Refusal
 refusal call joint states =
-    by-outcome call joint states (λ o. o .answer .number ≢ 0 → (o .joint ≡ joint) × (o .states ≡ states)) (λ ne. absurd (ne refl)) (λ ne ne′. (refl, refl))
+    by-outcome call joint states (λ o. o .answer .number ≢ 0 → (o .joint ≡ joint) × (o .states ≡ states)) (λ e ne. absurd (ne refl)) (λ ne ne′. (refl, refl))
 
 -- ---- what may change
 
 pub changes : Changes
-changes call joint states = by-outcome call joint states (OnlyChanges joint states) worked (λ ne. unaltered)
+changes call joint states = by-outcome call joint states (OnlyChanges joint states) (λ e. worked) (λ ne. unaltered)
   where
     worked : OnlyChanges joint states (done joint states (stageAt call joint states))
     worked =
@@ -133,7 +111,7 @@ changes call joint states = by-outcome call joint states (OnlyChanges joint stat
 pub warm-start-keeps : WarmStartKeeps
 warm-start-keeps kind joint states =
     by-outcome (warmStart kind) joint states (λ after. after .joint ≡ joint)
-    (ap (jointSim (joint .base)) (warm-keeps (joint .base) _ _ _ _ 0 (joint .«union_») refl))
+    (λ e. ap (jointSim (joint .base)) (warm-keeps (joint .base) _ _ _ _ 0 (joint .«union_») refl))
     (λ ne. refl)
 
 -- ---- stores
@@ -155,6 +133,6 @@ a-solve false e = omega arith
 pub limits : Limits
 limits kind context useBias joint states e free =
     by-outcome (solve kind context useBias) joint states (λ o. o .answer .number ≡ 0 → LimitsNonNegative (joint .«union_») (o .joint .«union_»))
-    (λ e. let u = joint .«union_» in
+    (λ z e. let u = joint .«union_» in
     solve-limits (joint .base) (context .h) (context .«inv_h») (stateAt states (indexA u)) (stateAt states (indexB u)) (cond useBias 1 2) u (a-solve useBias) free)
     (λ ne e. absurd (ne e)) e

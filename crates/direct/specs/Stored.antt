@@ -2,12 +2,12 @@
 use mathlib.Core.Path.{_≡_, refl, sym, ap, ap₂, _∙_}
 use mathlib.Core.Bool.{Bool, true, false, cond, false≢true}
 use mathlib.Core.List.{List, [], _∷_}
-use Prim.Native.Nat.{ℕ, zero, suc, _<_}
-use lib.Dec.{leb}
+use Prim.Native.Nat.{ℕ, zero, suc}
+use native.Mathlib.Nat.{lt-of-not-le}
 use lib.IntN.{ℤ, pos, negsuc}
-use lib.ListN.{length, getD, set, length-set}
+use lib.ListN.{length, getD, set}
 use lib.Seq.{getD-set-same}
-use borrow.Author.Tests.{eqb-true, eqb-false, leb-true, leb-false}
+use borrow.Author.Tests.{eqb-true, eqb-false}
 use Rattle.math_functions.specs.declared.types.Vec3.{Vec3}
 use Rattle.records.specs.declared.body.BodyState.{BodyState}
 use Rattle.records.specs.Body.{isDynamic, withVelocities, storeVelocities, identityBodyState}
@@ -15,7 +15,7 @@ use Rattle.constraint.specs.declared.velocity.Velocities.{Velocities}
 use Rattle.joint.specs.Store.{statePair, storePair}
 use Rattle.scene.specs.Scene.{stateAt, store}
 use Rattle.scene.specs.Claims.{OutOf}
-use Rattle.scene.specs.Stores.{elsewhere}
+use Rattle.scene.specs.Stores.{store-long, elsewhere}
 use Rattle.direct.specs.Claims.{oneBody}
 
 -- ---- a state that is stored twice
@@ -43,24 +43,12 @@ read-first s (pos m) (pos k) v w v′ w′ = sym (over-at s m k identityBodyStat
 read-first s (pos m) (negsuc k) v w v′ w′ = refl
 read-first s (negsuc m) j v w v′ w′ = refl
 
-pub store-long : (s : List BodyState) (i : ℤ) (v w : Vec3) → length (store s i v w) ≡ length s
-unfolding store
-store-long s (pos k) v w = length-set s k _
-store-long s (negsuc k) v w = refl
-
 -- ---- the two states that are left
-
-within : (n k : ℕ) → ¬ (OutOf n (pos k)) → k < n
-within n k h = by (leb n k) refl
-  where
-    by : (b : Bool) → leb n k ≡ b → k < n
-    by true e = absurd (h (leb-true n k e))
-    by false e = leb-false n k e
 
 -- the identity state is not dynamic
 stored-at : (s : List BodyState) (i : ℤ) (v w : Vec3) → ¬ (OutOf (length s) i) → stateAt (store s i v w) i ≡ storeVelocities (stateAt s i) v w
 unfolding store storeVelocities isDynamic
-stored-at s (pos k) v w h = getD-set-same s k _ identityBodyState (within (length s) k h)
+stored-at s (pos k) v w h = getD-set-same s k _ identityBodyState (lt-of-not-le h)
 stored-at s (negsuc k) v w h = refl
 
 apart : (s : List BodyState) (i j : ℤ) (v w : Vec3) → oneBody i j ≡ false → stateAt (store s j v w) i ≡ stateAt s i

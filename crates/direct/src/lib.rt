@@ -1,7 +1,6 @@
 // The direct calls: a joint that is lent to be changed in place, and body states in a lent slice. Each
 // makes its tests, works the stage of its own kind on copies, and stores what the stage changed. One that
 // is refused stores nothing.
-ghost use mathlib.Core.Path.{_≡_};
 ghost use Rattle.direct.specs.Direct as D;
 use crate::places::find_places;
 use crate::states::read_states;

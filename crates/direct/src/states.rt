@@ -1,6 +1,6 @@
 // The two states of a call, in a lent slice.
 ghost use mathlib.Core.Path.{_≡_};
-ghost use lib.ListN.{getD, set};
+ghost use lib.ListN.{getD};
 ghost use Rattle.records.specs.Body as B;
 ghost use Rattle.direct.specs.Steps as S;
 use crate::places::Places;

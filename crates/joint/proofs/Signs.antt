@@ -1,29 +1,38 @@
 -- Signed indices, which the code has by their bits, and a union's case, which it has by its tag. Assumes nothing.
 use mathlib.Core.Path.{_≡_, refl, sym, ap, _∙_}
-use mathlib.Core.Bool.{Bool, false}
+use mathlib.Core.Bool.{false, true≢false}
 use mathlib.Core.Logic.{inl, inr}
 use mathlib.Core.List.{[], _∷_}
 use Prim.Native.Nat.{ℕ}
 use native.Mathlib.Omega.{arith}
-use lib.Dec.{eqb}
-use lib.IntN.{ℤ}
-use lib.Signed.{ltZ}
-use mir.Syntax.{w32}
-use mir.Val.{SFits, toZ, ofZ}
+use lib.Dec.{T, eqb}
+use lib.IntN.{ℤ, pos, negsuc, natAbs}
+use lib.Signed.{nonNeg, ltZ}
+use mir.Syntax.{w32, w64}
+use mir.Val.{Fits, SFits, toZ, ofZ}
 use mir.ValLaws.{toZ-ofZ}
 use types.Run.{OneOf}
 use denote.Enum.Declared.{tagOf}
 use Rattle.records.proofs.joint.JointUnion.{the-type}
 use Rattle.records.specs.declared.joint.JointUnion.{JointUnion}
 use Rattle.records.specs.declared.joint.JointUnion.the-variants.{Revolute, Spherical, Weld, Other}
-use Rattle.joint.specs.Index.{badIndex}
 use Rattle.records.specs.Joint.{caseOf}
 
-pub less-back : (z y : ℤ) (b : Bool) → SFits w32 z → ltZ (toZ w32 (ofZ w32 z)) y ≡ b → ltZ z y ≡ b
-less-back z y b f h = ap (λ x. ltZ x y) (sym (toZ-ofZ w32 z f)) ∙ h
+-- a number as the code has it
+abbrev pub bits : ℤ → ℤ
+bits z = toZ w32 (ofZ w32 z)
 
-pub bad-is : (n : ℕ) (z y : ℤ) (r b : Bool) → SFits w32 z → z ≡ y → r ≡ badIndex n (toZ w32 (ofZ w32 z)) → r ≡ b → badIndex n y ≡ b
-bad-is n z y r b f e g h = ap (badIndex n) (sym (toZ-ofZ w32 z f ∙ e)) ∙ sym g ∙ h
+-- what is said of a number by its bits is said of the number
+pub at-bits : {A : Type 0} {z y : ℤ} {r : A} (f : ℤ → A) → SFits w32 z → z ≡ y → r ≡ f (bits z) → r ≡ f y
+at-bits {z} f fits e g = g ∙ ap f (toZ-ofZ w32 z fits ∙ e)
+
+not-negative : (z : ℤ) → SFits w32 z → ltZ z (pos 0) ≡ false → T (nonNeg z) × Fits w64 (natAbs z)
+not-negative (pos i) f h = (tt, record { fits = omega (arith, f .sfits) })
+not-negative (negsuc i) f h = absurd (true≢false h)
+
+-- a number that is not negative is cast to a place
+pub cast-fits : {z : ℤ} → SFits w32 z → ltZ (bits z) (pos 0) ≡ false → T (nonNeg (bits z)) × Fits w64 (natAbs (bits z))
+cast-fits {z} f h = let same = toZ-ofZ w32 z f in rw same (not-negative z f (rw same at h))
 
 -- a union's tag is the number of its case
 pub tag-is : (u : JointUnion) → tagOf the-type u ≡ caseOf u

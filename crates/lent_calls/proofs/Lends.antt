@@ -32,12 +32,13 @@ use denote.ArrayMemory.{Single, array-apart, array-whole}
 use denote.Ref.{MutRef}
 use denote.Slice.{sliceVal, MutSlice, Room, finally}
 use denote.Lend.{Held, lends-ref, ref-back, lends-slice, slice-back}
-use denote.Steps.{only, facts, heard}
+use denote.Steps.{facts, heard}
 use denote.Triple.Statement.{Contract, Triple}
 use denote.Triple.Call.{calls-at}
 use borrow.Table.Elements.{at, cut-app, join-app}
 use borrow.Rule.Array.Share.{room-take}
 use borrow.Rule.Slice.Shared.{parts-cells}
+use Rattle.direct.proofs.Pure.{lands-known}
 use Rattle.lent_calls.proofs.Lies.{lies-in, lies-out}
 
 -- a `&mut` on the value x in the local b
@@ -153,7 +154,4 @@ module _ {M : Type 1} (𝓤 : URA M) (H : Heap 𝓤) (A : Atoms 𝓤) (W : Given
           move t (0 ∷ 4 ∷ 3 ∷ []) $ use3 W (later (Back zs)) (array-back (a-is .1 .0 .1) β γ′ zs) $ await t tt $ learn t (λ a′-is.
           move t (1 ∷ 2 ∷ 3 ∷ []) $ use3 W (later (‵ (partAt J fullShare h′ b 0))) (ref-back 𝓤 H A W J (α ∷ []) γ h′ b 0) $ await t tt $
           use1 W (given (Is J h′ (val-j h′ ∷ [])) (‵ (fat fullShare τj b 0 (val-j h′)))) (lies-out 𝓤 H A W J τj J-mir val-j tells-j h′ b 0) $ learn t (λ j′-is.
-          landed is j′-is a′-is))))))))
-        where
-          landed : {w : Val} → Is Wn r (w ∷ []) → Is J h′ (val-j h′ ∷ []) → Is (Array R n) (zs ++ drop-list k ys) (val-a (zs ++ drop-list k ys) ∷ []) → Seq K W (Cells h′ (zs ++ drop-list k ys) Γ) (lands C Λ E d w rest p)
-          landed {w} is j′-is a′-is = let e : w ∷ [] ≡ val-w r ∷ [] = tells-w r (w ∷ []) is in subst (λ (u : Val). Seq K W (Cells h′ (zs ++ drop-list k ys) Γ) (lands C Λ E d u rest p)) (sym (ap only e)) (k′ (subst (Is Wn r) e is) j′-is a′-is)
+          lands-known Wn val-w tells-w r w is (λ w-is. k′ w-is j′-is a′-is)))))))))

@@ -39,8 +39,9 @@ use Rattle.lent_calls.specs.declared.Left.{Left}
 use Rattle.lent_calls.specs.Lent.{lentCall}
 use Rattle.direct.proofs.Rows.{R, J, Wn, made-s, val-j, vals-j, tells-j, made-j, val-w, tells-w}
 use Rattle.direct.proofs.WarmStart as thin
+use Rattle.direct.proofs.Pieces.{refTo}
 use Rattle.lent_calls.proofs.Rows.{S, arrayed, all, val-a, vals-a, tells-a, room, Lf, val-l, vals-l, l-of, made-l}
-use Rattle.lent_calls.proofs.Locals.{Locals, array, refTo, locals, Typing, typing}
+use Rattle.lent_calls.proofs.Locals.{Locals, array, locals, Typing, typing}
 use Rattle.lent_calls.proofs.Counts.{as-many, Count, calls-count}
 use Rattle.lent_calls.proofs.Lends.{Had, After, leaves, calls-lending}
 use Rattle.lent_calls.proofs.lent_count.Symbol.{name as #count}

@@ -2,17 +2,14 @@
 use mathlib.Core.Path.{_≡_, sym, ap, _∙_, refl}
 use mathlib.Core.Bool.{Bool, true, false, cond}
 use mathlib.Core.List.{List, [], _∷_, _++_, map, append-assoc, append-nil}
-use Prim.Native.Nat.{ℕ, zero, suc, _+_, _≤_, _<_, min}
+use Prim.Native.Nat.{ℕ, zero, suc, _+_, _≤_, _<_}
 use native.Mathlib.Nat.{le-of-suc-le-suc}
 use native.Mathlib.Numerals.{add-one}
 use native.Mathlib.Omega.{arith}
 use lib.Dec.{ltb}
 use lib.IntN.{ℤ, pos, negsuc}
-use lib.ListN.{length, getD, set, take, drop, replicate, length-map, length-set, length-take, List·getD-append, List·getD-eq-default}
-use lib.Seq.{set-out, set-at, set-append-left, take-suc, take-all, drop-cons, getD-append-add}
-use mir.Syntax.{w32}
-use mir.Val.{SFits, toZ, ofZ}
-use mir.ValLaws.{toZ-ofZ}
+use lib.ListN.{length, getD, set, take, drop, replicate, length-map, List·getD-append, List·getD-eq-default}
+use lib.Seq.{set-out, set-at, set-append-left, take-suc, take-all, drop-cons, getD-at, length-take-le}
 use borrow.Author.Tests.{lt-ltb, ltb-true, ltb-false}
 use Rattle.records.proofs.joint.JointSim as JointField
 use Rattle.records.proofs.body.BodyState as BodyField
@@ -21,6 +18,8 @@ use Rattle.records.specs.declared.body.BodyState.{BodyState}
 use Rattle.records.specs.Body.{isDynamic, storeVelocities, identityBodyState}
 use Rattle.scene.specs.declared.Scene.{Scene}
 use Rattle.scene.specs.Scene.{stateAt, store}
+use Rattle.scene.specs.Stores as Stores
+use Rattle.scene.specs.Stores.{store-none}
 use Rattle.places.specs.Places.{bodyPlace, jointPlace, withIdentity}
 
 -- in range the value past the end does not matter
@@ -36,11 +35,6 @@ joints-long s e = sym (length-map (s .joints) (JointField.the-field .into)) ∙ 
 pub bodies-long : (s : Scene) → length (map (BodyField.the-field .into) (s .bodies)) ≡ 32 → length (s .bodies) ≡ 32
 bodies-long s e = sym (length-map (s .bodies) (BodyField.the-field .into)) ∙ e
 
--- ---- signed numbers, which the code has by their bits
-
-pub place-is : (z y : ℤ) (r : ℕ) → SFits w32 z → z ≡ y → r ≡ bodyPlace (toZ w32 (ofZ w32 z)) → r ≡ bodyPlace y
-place-is z y r f e g = g ∙ ap bodyPlace (toZ-ofZ w32 z f ∙ e)
-
 -- ---- places
 
 pub joint-place-in : (slot : ℕ) → slot < 32 → jointPlace slot ≡ slot
@@ -49,9 +43,7 @@ joint-place-in slot h = rw (lt-ltb slot 32 h)
 
 last : (us : List BodyState) → length us ≡ 32 → (d : BodyState) → getD (withIdentity us) 32 d ≡ identityBodyState
 unfolding withIdentity
-last us long d =
-    let e : 32 ≡ length us + 0 = omega arith in
-    ap (λ k. getD (us ++ (identityBodyState ∷ [])) k d) e ∙ getD-append-add us (identityBodyState ∷ []) 0 d
+last us long d = getD-at us identityBodyState [] d 32 long
 
 inside : (us : List BodyState) (n : ℕ) (d : BodyState) → length us ≡ 32 → n < 32 → getD (withIdentity us) n d ≡ getD us n identityBodyState
 unfolding withIdentity
@@ -90,10 +82,6 @@ store-out : (us : List BodyState) (n : ℕ) (v w : Vec3) → length us ≡ 32 �
 unfolding store
 store-out us n v w long h = set-out us n _ (omega arith)
 
-store-none : (us : List BodyState) (n : ℕ) (v w : Vec3) → store us (negsuc n) v w ≡ us
-unfolding store
-store-none us n v w = refl
-
 -- a store at an index's place is a store at the index
 pub kept-is : (us : List BodyState) → length us ≡ 32 → (z : ℤ) (y d : BodyState) (v w : Vec3) → y ≡ storeVelocities (getD (withIdentity us) (bodyPlace z) d) v w
     → set (withIdentity us) (bodyPlace z) y ≡ withIdentity (store us z v w)
@@ -106,18 +94,13 @@ kept-is us long (pos n) y d v w e = by (ltb n 32) refl e
 
 -- a store keeps the count
 pub store-long : (us : List BodyState) (z : ℤ) (v w : Vec3) → length us ≡ 32 → length (store us z v w) ≡ 32
-unfolding store
-store-long us (pos n) v w h = length-set us n _ ∙ h
-store-long us (negsuc n) v w h = h
+store-long us z v w h = Stores.store-long us z v w ∙ h
 
 -- ---- filling an array from another
 
-min-low : (k n : ℕ) → k < n → min k n ≡ k
-min-low k n h = omega arith
-
 pub fill-more {ℓ} : {A : Type ℓ} (bs o w : List A) (k : ℕ) (d : A) → w ≡ take k bs ++ drop k o → k < length bs → k < length o → set w k (getD bs k d) ≡ take (k + 1) bs ++ drop (k + 1) o
 fill-more bs o w k d e h g =
-    let n : length (take k bs) ≡ k = length-take k bs ∙ min-low k (length bs) h in
+    let n : length (take k bs) ≡ k = length-take-le k bs (omega arith) in
     rw (e, add-one k, drop-cons o k d g, take-suc bs k d h) (set-at (take k bs) (getD o k d) (drop (suc k) o) (getD bs k d) k n ∙ sym (append-assoc (take k bs) (getD bs k d ∷ []) (drop (suc k) o)))
 
 pub fill-33 : (bs w : List BodyState) (k : ℕ) → length bs ≡ 32 → k ≡ 32 → w ≡ take k bs ++ drop k (replicate 33 identityBodyState) → w ≡ withIdentity bs

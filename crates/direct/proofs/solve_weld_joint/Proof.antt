@@ -3,7 +3,7 @@ use contract.Running.{givenOf, tables, tablesOf}
 use denote.Triple.Spec.{tripleOf}
 use denote.Triple.Table.{entered, cited}
 use Rattle.direct.proofs.Calls.{Read, Write}
-use Rattle.direct.proofs.Stages.{Find, SolveAs, Left}
+use Rattle.direct.proofs.Stages.{Find, SolveAs, StagedJoint}
 use Rattle.direct.proofs.Solve.{meets}
 use Rattle.direct.proofs.places.find_places.Symbol as find-def
 use Rattle.direct.proofs.places.find_places.Symbol.{name as #find}
@@ -14,9 +14,9 @@ use Rattle.direct.proofs.states.read_states.Met as read-thm
 use Rattle.joint.proofs.stage.solve_as_weld.Symbol as stage-def
 use Rattle.joint.proofs.stage.solve_as_weld.Symbol.{name as #stage}
 use Rattle.joint.proofs.stage.solve_as_weld.Met as stage-thm
-use Rattle.joint.proofs.stage.staged_joint.Symbol as left-def
-use Rattle.joint.proofs.stage.staged_joint.Symbol.{name as #left}
-use Rattle.joint.proofs.stage.staged_joint.Met as left-thm
+use Rattle.joint.proofs.stage.staged_joint.Symbol as staged-def
+use Rattle.joint.proofs.stage.staged_joint.Symbol.{name as #staged}
+use Rattle.joint.proofs.stage.staged_joint.Met as staged-thm
 use Rattle.direct.proofs.states.write_states.Symbol as write-def
 use Rattle.direct.proofs.states.write_states.Symbol.{name as #write}
 use Rattle.direct.proofs.states.write_states.Met as write-thm
@@ -34,5 +34,5 @@ solve-weld-joint-spec 𝓤 H 𝓜 𝓖 𝓡 =
     (cited 𝓤 H (Find 𝓤 H (𝓖 .A) (𝓜 .mem) (𝓡 .run)) 𝓜 𝓡 code.env #find find-def.routine code.calls-direct·places·find-places (find-thm.met 𝓤 H 𝓜 𝓖 𝓡))
     (cited 𝓤 H (Read 𝓤 H (𝓖 .A) (𝓜 .mem) (𝓡 .run)) 𝓜 𝓡 code.env #read read-def.routine code.calls-direct·states·read-states (read-thm.met 𝓤 H 𝓜 𝓖 𝓡))
     (cited 𝓤 H (SolveAs 𝓤 H (𝓖 .A) 2) 𝓜 𝓡 code.env #stage stage-def.routine code.calls-joint·stage·solve-as-weld (stage-thm.met 𝓤 H 𝓜 𝓖 𝓡))
-    (cited 𝓤 H (Left 𝓤 H (𝓖 .A) (𝓜 .mem) (𝓡 .run)) 𝓜 𝓡 code.env #left left-def.routine code.calls-joint·stage·staged-joint (left-thm.met 𝓤 H 𝓜 𝓖 𝓡))
+    (cited 𝓤 H (StagedJoint 𝓤 H (𝓖 .A) (𝓜 .mem) (𝓡 .run)) 𝓜 𝓡 code.env #staged staged-def.routine code.calls-joint·stage·staged-joint (staged-thm.met 𝓤 H 𝓜 𝓖 𝓡))
     (cited 𝓤 H (Write 𝓤 H (𝓖 .A) (𝓜 .mem) (𝓡 .run)) 𝓜 𝓡 code.env #write write-def.routine code.calls-direct·states·write-states (write-thm.met 𝓤 H 𝓜 𝓖 𝓡)))

@@ -1,9 +1,9 @@
 -- `places_of` equals its definition. Assumes nothing.
-use mathlib.Core.Path.{_≡_, ap}
+use mathlib.Core.Path.{ap}
 use mir.Syntax.{w32}
 use mir.Val.{SFits}
-use borrow.Author.Needs.{needs}
-use Rattle.places.proofs.Elements.{place-is}
+use Rattle.joint.proofs.Signs.{at-bits}
+use Rattle.places.specs.Places.{bodyPlace}
 use Rattle.places.proofs.places_of.Statement.{statement}
 use Rattle.places.proofs.places_of.Tie as tie
 
@@ -23,8 +23,8 @@ returns c =
     let i = told .before .indices-of in
     let f : SFits w32 (i .result .a) = record { sfits = told .struct-told .given .0 .1 } in
     let g : SFits w32 (i .result .b) = record { sfits = told .struct-told .given .1 .0 .1 } in
-    let a = place-is _ _ _ f (ap (λ x. x .a) (i .ensures)) (first .body-place .ensures .1) in
-    let b = place-is _ _ _ g (ap (λ x. x .b) (i .ensures)) (c .body-place2 .ensures .1) in
+    let a = at-bits bodyPlace f (ap (λ x. x .a) (i .ensures)) (first .body-place .ensures .1) in
+    let b = at-bits bodyPlace g (ap (λ x. x .b) (i .ensures)) (c .body-place2 .ensures .1) in
     (first .body-place .ensures .0, c .body-place2 .ensures .0, λ k. record { a = a k; b = b k })
 
 pub places-of-spec : {M : Type 1} → statement M
