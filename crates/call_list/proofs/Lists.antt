@@ -9,7 +9,7 @@ use native.Mathlib.Omega.{arith}
 use lib.Dec.{eqb, ltb, leb}
 use lib.ListN.{length, getD, set, take, drop, length-map, replicate, length-replicate, List·getD-map}
 use lib.Seq.{take-all}
-use borrow.Author.Tests.{eq-eqb, ne-eqb, eqb-true, eqb-false, ltb-false, leb-false}
+use borrow.Author.Tests.{eq-eqb, ne-eqb, eqb-false, ltb-false, leb-false}
 use Rattle.records.specs.declared.body.BodyState.{BodyState}
 use Rattle.records.specs.declared.joint.JointSim.{JointSim}
 use Rattle.records.specs.Body.{identityBodyState}
@@ -27,45 +27,32 @@ use Rattle.calls.proofs.Lists.{calls-here, calls-end}
 -- ---- the tests before the calls
 
 pub record NoEarly (bodyCount jointCount bytes : ℕ) : Type 0 where
-  pub few-bodies : bodyCount ≤ 32
   pub few-joints : jointCount ≤ 32
   pub even : bytes % 2 ≡ 0
   pub short : bytes ≤ 8192
 
-pub early-none : (n m l : ℕ) → earlyCause n m l ≡ 0 → NoEarly n m l
+no-early : (n m l : ℕ) → earlyCause n m l ≡ 0 → NoEarly n m l
 unfolding earlyCause
-early-none n m l e = by (ltb 32 n) (ltb 32 m) (eqb (l % 2) 1) (ltb 8192 l) refl refl refl refl e
+no-early n m l e = by (ltb 32 n) (ltb 32 m) (eqb (l % 2) 1) (ltb 8192 l) refl refl refl e
   where
-    by : (a b c d : Bool) → ltb 32 n ≡ a → ltb 32 m ≡ b → eqb (l % 2) 1 ≡ c → ltb 8192 l ≡ d → _≡_ {A = ℕ} (cond (a || b) 6 (cond (c || d) 7 0)) 0 → NoEarly n m l
-    by true b c d p q r t e = absurd (omega arith)
-    by false true c d p q r t e = absurd (omega arith)
-    by false false true d p q r t e = absurd (omega arith)
-    by false false false true p q r t e = absurd (omega arith)
-    by false false false false p q r t e =
-        record {
-          few-bodies = ltb-false 32 n p;
-          few-joints = ltb-false 32 m q;
-          even = omega (arith, eqb-false (l % 2) 1 r);
-          short = ltb-false 8192 l t;
-        }
+    by : (a b c d : Bool) → ltb 32 m ≡ b → eqb (l % 2) 1 ≡ c → ltb 8192 l ≡ d → _≡_ {A = ℕ} (cond (a || b) 6 (cond (c || d) 7 0)) 0 → NoEarly n m l
+    by true b c d q r t e = absurd (omega arith)
+    by false true c d q r t e = absurd (omega arith)
+    by false false true d q r t e = absurd (omega arith)
+    by false false false true q r t e = absurd (omega arith)
+    by false false false false q r t e = record { few-joints = ltb-false 32 m q; even = omega (arith, eqb-false (l % 2) 1 r); short = ltb-false 8192 l t }
 
-pub verdict-early : (s : Scene) (l : List ℕ) (c : ℕ) → c ≡ earlyCause (s .«body_count») (s .«joint_count») (length l) → c ≢ 0 → verdictOf c 0 ≡ verdict s l
-unfolding verdict
-verdict-early s l c e o = rw (← e, ne-eqb c 0 o)
+module _ (s : Scene) (l : List ℕ) (c : ℕ) (is : c ≡ earlyCause (s .«body_count») (s .«joint_count») (length l)) where
+  pub early-none : c ≡ 0 → NoEarly (s .«body_count») (s .«joint_count») (length l)
+  early-none o = no-early (s .«body_count») (s .«joint_count») (length l) (sym is ∙ o)
 
-pub verdict-late : (s : Scene) (l : List ℕ) (c : ℕ) → c ≡ earlyCause (s .«body_count») (s .«joint_count») (length l) → c ≡ 0 → firstCause s 0 (calls l) ≡ verdict s l
-unfolding verdict
-verdict-late s l c e o = rw (sym e ∙ o)
+  pub verdict-early : c ≢ 0 → verdictOf c 0 ≡ verdict s l
+  unfolding verdict
+  verdict-early o = rw (← is, ne-eqb c 0 o)
 
-pub accepted-early : (s : Scene) (l : List ℕ) → Accepted s l → NoEarly (s .«body_count») (s .«joint_count») (length l)
-accepted-early s l a = early-none (s .«body_count») (s .«joint_count») (length l) (by (eqb early 0) refl)
-  where
-    early : ℕ
-    early = earlyCause (s .«body_count») (s .«joint_count») (length l)
-
-    by : (b : Bool) → eqb early 0 ≡ b → early ≡ 0
-    by true e = eqb-true early 0 e
-    by false e = ap (λ v. v .number) (verdict-early s l early refl (eqb-false early 0 e)) ∙ a
+  pub verdict-late : c ≡ 0 → firstCause s 0 (calls l) ≡ verdict s l
+  unfolding verdict
+  verdict-late o = rw (sym is ∙ o)
 
 -- ---- the check's loop
 

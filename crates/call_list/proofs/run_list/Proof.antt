@@ -1,7 +1,9 @@
 -- `run_list` equals the plain run. Assumes nothing.
-use mathlib.Core.Path.{_≡_, sym, ap, _∙_}
-use borrow.Author.Needs.{needs}
-use Rattle.call_list.proofs.Lists.{accepted-early, refused-is, done-is}
+use mathlib.Core.Path.{sym, ap, _∙_}
+use mathlib.Core.Logic.{inl}
+use native.Mathlib.Nat.{le-of-suc-le-suc, lt-of-not-le}
+use Rattle.scene.specs.Accepted.{verdict-answers}
+use Rattle.call_list.proofs.Lists.{refused-is, done-is}
 use Rattle.call_list.proofs.run_list.Statement.{statement}
 use Rattle.call_list.proofs.run_list.Tie as tie
 
@@ -22,7 +24,8 @@ is-still-requires c κs =
     let e = c .before .before .before in
     let v = e .before .before in
     let r = v .before .before .args in
-    accepted-early (r .scene) (r .list .now) (ap (λ x. x .number) (sym (v .check-list .ensures)) ∙ e .if1 .left) .few-bodies
+    let accepted = ap (λ x. x .number) (sym (v .check-list .ensures)) ∙ e .if1 .left in
+    le-of-suc-le-suc (lt-of-not-le (λ h. verdict-answers (r .scene) (r .list .now) .none accepted .0 .0 (inl h)))
 
 returns-2 : tie.Need-returns-2
 returns-2 c =

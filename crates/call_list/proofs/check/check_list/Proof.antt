@@ -1,6 +1,6 @@
 -- `check::check_list` equals its definition: no call before the byte `i` has a cause. Assumes nothing.
-use mathlib.Core.Path.{_≡_, refl, sym, _∙_}
-use Prim.Native.Nat.{ℕ, _+_, _-_, _≤_, _<_}
+use mathlib.Core.Path.{_≡_, refl, _∙_}
+use Prim.Native.Nat.{_+_, _-_, _≤_, _<_}
 use native.Mathlib.Omega.{arith}
 use lib.ListN.{length, drop}
 use borrow.Author.Needs.{needs}
@@ -23,7 +23,7 @@ early-cause-requires c κs = tt
 returns : tie.Need-returns Inv-loop μ-loop
 returns c =
     let r = c .before .before .before .args in
-    verdict-early (r .scene) (r .list .now) (c .before .early-cause .result) (c .before .early-cause .ensures) (c .if1 .taken)
+    verdict-early (r .scene) (r .list .now) _ (c .before .early-cause .ensures) (c .if1 .taken)
 
 joint-causes-requires : tie.Need-joint-causes-requires Inv-loop μ-loop
 joint-causes-requires c κs = tt
@@ -51,7 +51,7 @@ shared-slice-read-call-cause c =
     let l = c .before .before .before .before in
     let e = l .before .before in
     let r = e .before .before .before .args in
-    let none = early-none (r .scene .«body_count») (r .scene .«joint_count») (length (r .list .now)) (sym (e .before .early-cause .ensures) ∙ e .if1 .left) in
+    let none = early-none (r .scene) (r .list .now) _ (e .before .early-cause .ensures) (e .if1 .left) in
     omega (arith, none .even, l .loop .inv .1, c .before .before .before .loop-test .taken)
 
 call-cause-requires : tie.Need-call-cause-requires Inv-loop μ-loop
@@ -62,7 +62,7 @@ returns-2 c =
     let l = c .before .before .before .before .before .before in
     let e = l .before .before in
     let r = e .before .before .before .args in
-    let none = early-none (r .scene .«body_count») (r .scene .«joint_count») (length (r .list .now)) (sym (e .before .early-cause .ensures) ∙ e .if1 .left) in
+    let none = early-none (r .scene) (r .list .now) _ (e .before .early-cause .ensures) (e .if1 .left) in
     let t = l .loop .inv in
     let k = c .before in
     let o = k .before .before in
@@ -70,14 +70,14 @@ returns-2 c =
     let long = joints-long (r .scene) (e .before .before .before .good .0 .1 .1 .0 .1 .0 .1) in
     let cause = cause-is (r .scene) (l .before .joint-causes .result) _ _ (o .joint-place .result) _ (k .call-cause .result) long (none .few-joints) (l .before .joint-causes .ensures) (o .joint-place .ensures .1) (k .call-cause .ensures) in
     check-stop (r .list .now) (l .loop .i) (r .scene) (l .loop .place) _ (t .2) (k .call-cause .result) room cause (c .if2 .taken)
-    ∙ verdict-late (r .scene) (r .list .now) (e .before .early-cause .result) (e .before .early-cause .ensures) (e .if1 .left)
+    ∙ verdict-late (r .scene) (r .list .now) _ (e .before .early-cause .ensures) (e .if1 .left)
 
 add-i : tie.Need-add-i Inv-loop μ-loop
 add-i c =
     let l = c .before .before .before .before .before .before in
     let e = l .before .before in
     let r = e .before .before .before .args in
-    let none = early-none (r .scene .«body_count») (r .scene .«joint_count») (length (r .list .now)) (sym (e .before .early-cause .ensures) ∙ e .if1 .left) in
+    let none = early-none (r .scene) (r .list .now) _ (e .before .early-cause .ensures) (e .if1 .left) in
     omega (arith, none .short, l .loop .inv .0)
 
 add-place : tie.Need-add-place Inv-loop μ-loop
@@ -85,7 +85,7 @@ add-place c =
     let l = c .before .before .before .before .before .before in
     let e = l .before .before in
     let r = e .before .before .before .args in
-    let none = early-none (r .scene .«body_count») (r .scene .«joint_count») (length (r .list .now)) (sym (e .before .early-cause .ensures) ∙ e .if1 .left) in
+    let none = early-none (r .scene) (r .list .now) _ (e .before .early-cause .ensures) (e .if1 .left) in
     omega (arith, none .short, l .loop .inv .0, l .loop .inv .1)
 
 loop-less : tie.Need-loop-less Inv-loop μ-loop
@@ -96,7 +96,7 @@ loop-again c =
     let l = c .before .before .before .before .before .before in
     let e = l .before .before in
     let r = e .before .before .before .args in
-    let none = early-none (r .scene .«body_count») (r .scene .«joint_count») (length (r .list .now)) (sym (e .before .early-cause .ensures) ∙ e .if1 .left) in
+    let none = early-none (r .scene) (r .list .now) _ (e .before .early-cause .ensures) (e .if1 .left) in
     let t = l .loop .inv in
     let k = c .before in
     let o = k .before .before in
@@ -113,7 +113,7 @@ returns-3 c =
     let e = l .before .before in
     let r = e .before .before .before .args in
     check-end (r .list .now) (l .loop .i) (r .scene) (l .loop .place) _ (l .loop .inv .2) (omega (arith, c .loop-test .left))
-    ∙ verdict-late (r .scene) (r .list .now) (e .before .early-cause .result) (e .before .early-cause .ensures) (e .if1 .left)
+    ∙ verdict-late (r .scene) (r .list .now) _ (e .before .early-cause .ensures) (e .if1 .left)
 
 pub check-list-spec : {M : Type 1} → statement M
 check-list-spec =

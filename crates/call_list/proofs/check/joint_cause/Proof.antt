@@ -1,6 +1,5 @@
 -- `check::joint_cause` equals its definition. Assumes nothing.
 use mathlib.Core.Path.{sym, _∙_}
-use borrow.Author.Needs.{needs}
 use Rattle.call_list.proofs.check.joint_cause.Statement.{statement}
 use Rattle.call_list.proofs.check.joint_cause.Tie as tie
 

@@ -1,5 +1,4 @@
 -- `still::same_velocities` equals its definition. Assumes nothing.
-use borrow.Author.Needs.{needs}
 use Rattle.scene.specs.Plain.{sameVelocities}
 use Rattle.call_list.proofs.still.same_velocities.Statement.{statement}
 use Rattle.call_list.proofs.still.same_velocities.Tie as tie
