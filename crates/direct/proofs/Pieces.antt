@@ -7,7 +7,7 @@ use Rattle.records.proofs.body.BodyState.Laws as Ts′
 use Rattle.records.proofs.joint.JointSim.Laws as Tj′
 use Rattle.direct.proofs.Rows.{J}
 
--- the type of a local that holds a reference lent again
+-- the type of a local that holds a `&mut`
 abbrev pub refTo : Ty → Ty
 refTo τ = tyRef erased mut τ
 

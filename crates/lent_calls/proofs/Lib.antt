@@ -2,6 +2,7 @@ pub mod Lies
 pub mod Lends
 pub mod Rows
 pub mod Locals
+pub mod Pieces
 pub mod Counts
 pub mod WarmStart
 pub mod Solve

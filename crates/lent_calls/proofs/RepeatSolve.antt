@@ -46,10 +46,11 @@ use Rattle.direct.proofs.Rows.{R, J, X, Wn, made-s, val-j, vals-j, tells-j, mad
 use Rattle.direct.proofs.Pieces.{refTo}
 use Rattle.lent_calls.proofs.Rows.{S, arrayed, all, val-a, vals-a, tells-a, room, Wk, val-k, vals-k, k-of, made-k}
 use Rattle.lent_calls.proofs.Locals.{Locals, array, locals, Typing, typing}
+use Rattle.lent_calls.proofs.Pieces.{more, turn, rest, repeats, repeat-locals}
 use Rattle.lent_calls.proofs.Counts.{as-many}
 use Rattle.lent_calls.proofs.Lends.{calls-lending}
 use Rattle.lent_calls.proofs.Solve.{Thin, to-thin, goes, comes}
-use Rattle.lent_calls.proofs.Repeated.{more, turn, rest, repeats, own-locals, after, Reached, Nearer, Nearer-wf, to-joint, to-states, goes-on, nearer, more-fits}
+use Rattle.lent_calls.proofs.Repeated.{after, Reached, Nearer, Nearer-wf, to-joint, to-states, goes-on, nearer, more-fits}
 
 abbrev pub signature : Signature
 signature = record { lifetimes = 0; outlives = []; params = plain (λ _. J) ∷ plain (λ _. X) ∷ arrayed ∷ plain (λ _. bool) ∷ plain (λ _. u64) ∷ []; result = plain (λ _. Wk) }
@@ -76,7 +77,7 @@ function f t = record {
   lifetimes = 0;
   outlives = [];
   params = 5;
-  locals = local (t .worked) valueLocal ∷ local (t .joint) valueLocal ∷ local (t .context) valueLocal ∷ local (array t) valueLocal ∷ local tyBool valueLocal ∷ local (tyInt w64) valueLocal ∷ own-locals t;
+  locals = local (t .worked) valueLocal ∷ local (t .joint) valueLocal ∷ local (t .context) valueLocal ∷ local (array t) valueLocal ∷ local tyBool valueLocal ∷ local (tyInt w64) valueLocal ∷ repeat-locals t;
   body = repeats f args 3 5;
 }
 

@@ -1,5 +1,4 @@
 -- What the walks of `RepeatSolve.antt` and `RepeatWarmStart.antt` share: calls that are made again and again in a loop, each on what the one before it left.
---     more, turn, rest, repeats, own-locals      their MIR
 --     lent-joint, lent-states      a call that all the states are lent to leaves what the direct call leaves
 --     Reached, Nearer              the loop's variant: how many calls are made, and that what they left is a joint and states
 --     goes-on, more-fits           a call more
@@ -9,13 +8,11 @@ use Prim.Native.Nat.{ℕ, suc, _+_, _-_, _^_, _≤_, _<_}
 use native.Mathlib.Nat.{le-refl, lt-of-le-of-lt}
 use native.Mathlib.Numerals.{add-one, sub-suc-lt}
 use mathlib.Core.WellFounded.{WellFounded, InvImage·wf}
-use mathlib.Core.List.{List, [], _∷_, _++_, append-nil}
+use mathlib.Core.List.{List, _++_, append-nil}
 use lib.ListN.{length, take, drop, drop-of-length-le}
 use lib.Seq.{take-all}
 use lib.WfN.{Nat·lt-wfRel}
-use mir.Syntax.{Name, Local, Opd as Operand, Body, w64, tyInt, tyBool, place, unsigned, copy, int, rvOpd, op2, lt, add, local, valueLocal, memorySlot, skip, seq, assign, block, loop, cond, exit, call, return, addrOf, aggregate}
 use denote.Laws.{Is}
-use denote.Slice.{sliceTy}
 use Rattle.records.specs.declared.body.BodyState.{BodyState}
 use Rattle.records.specs.declared.joint.JointSim.{JointSim}
 use Rattle.direct.specs.declared.call.Call.{Call}
@@ -23,36 +20,7 @@ use Rattle.direct.specs.Direct.{Outcome, directCall}
 use Rattle.lent_calls.specs.declared.Worked.{Worked}
 use Rattle.lent_calls.specs.Lent.{lentCall, repeated}
 use Rattle.direct.proofs.Rows.{J, vals-j}
-use Rattle.direct.proofs.Pieces.{refTo}
 use Rattle.lent_calls.proofs.Rows.{S, all, vals-a}
-use Rattle.lent_calls.proofs.Locals.{Locals, array}
-
--- ---- their MIR. m is the local of the count; after it stand the joint, the states, how many calls are made, the test, the answer, the references to the joint, to the
--- array and to its states, and the two that are returned
-module _ (f : Name) (xs : List Operand) (m : ℕ) where
-  abbrev pub more : Body
-  more = seq (assign (place (m + 6) []) (addrOf (place (m + 1) [])))
-      (seq (assign (place (m + 7) []) (addrOf (place (m + 2) [])))
-      (seq (assign (place (m + 8) []) (aggregate (copy (place (m + 7) []) ∷ int w64 3 ∷ [])))
-      (seq (call f xs (place (m + 5) []))
-      (assign (place (m + 3) []) (op2 (add unsigned) (copy (place (m + 3) [])) (int w64 1))))))
-
-  abbrev pub turn : Body
-  turn = seq (assign (place (m + 4) []) (op2 (lt unsigned) (copy (place (m + 3) [])) (copy (place m [])))) (seq (cond (copy (place (m + 4) [])) skip (exit 1)) more)
-
-abbrev pub rest : ℕ → Body
-rest m = seq (assign (place (m + 9) []) (rvOpd (copy (place (m + 1) [])))) (seq (assign (place (m + 10) []) (rvOpd (copy (place (m + 2) [])))) (seq (assign (place 0 []) (aggregate (copy (place (m + 9) []) ∷ copy (place (m + 10) []) ∷ []))) return))
-
--- the whole body, where the states are taken from the local s
-abbrev pub repeats : Name → List Operand → ℕ → ℕ → Body
-repeats f xs s m = seq (assign (place (m + 1) []) (rvOpd (copy (place 1 [])))) (seq (assign (place (m + 2) []) (rvOpd (copy (place s [])))) (seq (assign (place (m + 3) []) (rvOpd (int w64 0))) (seq (block (loop (turn f xs m))) (rest m))))
-
--- the locals after the count
-abbrev pub own-locals : Locals → List Local
-own-locals t = local (t .joint) memorySlot ∷ local (array t) memorySlot ∷ local (tyInt w64) valueLocal ∷ local tyBool valueLocal ∷ local (t .answer) valueLocal
-    ∷ local (refTo (t .joint-named)) valueLocal ∷ local (refTo (t .array-named)) valueLocal ∷ local (sliceTy (refTo (t .state-named))) valueLocal ∷ local (t .joint) valueLocal ∷ local (array t) valueLocal ∷ []
-
--- ---- what they leave
 
 module _ (call : Call) (h : JointSim) (ys : List BodyState) (l : length ys ≡ all) where
   short : length ys ≤ all
