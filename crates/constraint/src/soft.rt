@@ -4,6 +4,8 @@ ghost use mathlib.Core.Path.{_≡_};
 ghost use Rattle.constraint.specs.Soft as D;
 use math_functions::internal::mul_sv2;
 use math_functions::scalar::max_float;
+use math_functions::types::VEC2_ZERO;
+use math_functions::types::VEC3_ZERO;
 use math_functions::types::Vec2;
 use math_functions::types::Vec3;
 use math_functions::vector::mul_sub;
@@ -37,17 +39,13 @@ pub const RIGID: SoftBias = SoftBias {
 };
 
 pub const RIGID2: SoftBias2 = SoftBias2 {
-    bias: Vec2 { x: 0.0, y: 0.0 },
+    bias: VEC2_ZERO,
     mass_scale: 1.0,
     impulse_scale: 0.0,
 };
 
 pub const RIGID3: SoftBias3 = SoftBias3 {
-    bias: Vec3 {
-        x: 0.0,
-        y: 0.0,
-        z: 0.0,
-    },
+    bias: VEC3_ZERO,
     mass_scale: 1.0,
     impulse_scale: 0.0,
 };

@@ -7,6 +7,7 @@ use math_functions::types::TRANSFORM_IDENTITY;
 use math_functions::types::Transform;
 use math_functions::types::Vec2;
 use math_functions::types::Vec3;
+use solver::NO_SOFTNESS;
 use solver::Softness;
 
 // Joint type enumeration.
@@ -167,11 +168,7 @@ pub const UNUSED_JOINT: JointSim = JointSim {
         inv_i_b: MAT3_ZERO,
         constraint_hertz: 0.0,
         constraint_damping_ratio: 0.0,
-        constraint_softness: Softness {
-            bias_rate: 0.0,
-            mass_scale: 0.0,
-            impulse_scale: 0.0,
-        },
+        constraint_softness: NO_SOFTNESS,
         force_threshold: 0.0,
         torque_threshold: 0.0,
         fixed_rotation: false,

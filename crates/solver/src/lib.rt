@@ -10,15 +10,17 @@ pub struct Softness {
     pub impulse_scale: f32,
 }
 
+pub const NO_SOFTNESS: Softness = Softness {
+    bias_rate: 0.0,
+    mass_scale: 0.0,
+    impulse_scale: 0.0,
+};
+
 pub fn make_soft(hertz: f32, zeta: f32, h: f32) -> Softness
     ensures { λ r. ⌜ r ≡ D.makeSoft hertz zeta h ⌝ }
 {
     if hertz == 0.0 {
-        return Softness {
-            bias_rate: 0.0,
-            mass_scale: 0.0,
-            impulse_scale: 0.0,
-        };
+        return NO_SOFTNESS;
     }
 
     let omega = 2.0 * PI * hertz;
