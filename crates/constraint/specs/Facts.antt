@@ -1,6 +1,8 @@
--- What the kinds' facts lean on: a limit row's impulse is zero or positive and never a NaN, whatever the row is handed. Assumes nothing.
+-- What the kinds' facts lean on: a limit row's impulse is zero or positive and never a NaN, whatever the row is handed; and what a stage leaves of a joint of any kind. Assumes nothing.
 use mathlib.Core.Path.{_≡_, refl}
 use mathlib.Core.Bool.{Bool, true, false, cond, _||_}
+use mathlib.Core.Option.{Option, none, some, Option·elim}
+use Prim.Native.Nat.{ℕ}
 use lib.Ieee as Ieee
 use lib.Ieee.{Float}
 use Rattle.math_functions.specs.declared.types.Vec3.{Vec3}
@@ -8,11 +10,13 @@ use Rattle.math_functions.specs.declared.types.Quat.{Quat}
 use Rattle.math_functions.specs.Float.{lt, gt, eq, zero}
 use Rattle.math_functions.specs.Scalar.{maxFloat}
 use Rattle.solver.specs.declared.Softness.{Softness}
+use Rattle.records.specs.declared.joint.JointUnion.{JointUnion}
+use Rattle.records.specs.Joint.{isSome}
 use Rattle.constraint.specs.declared.velocity.Velocities.{Velocities}
 use Rattle.constraint.specs.declared.velocity.InvMasses.{InvMasses}
 use Rattle.constraint.specs.declared.soft.SoftBias.{SoftBias}
 use Rattle.constraint.specs.Soft.{limitImpulse}
-use Rattle.constraint.specs.Angular.{lowerLimitRow, upperLimitRow, twistLimitRows}
+use Rattle.constraint.specs.Angular.{isWorked, lowerLimitRow, upperLimitRow, twistLimitRows}
 
 -- 0.0 <= x by the float comparison, which is false for a NaN
 pub record NonNegative (x : Float) : Type 0 where
@@ -38,6 +42,11 @@ pub upperLimitRow-nonNegative : (s : SoftBias) (mass : Float) (axis : Vec3) (old
 unfolding upperLimitRow
 upperLimitRow-nonNegative s mass axis old m v = limitImpulse-nonNegative _ _ _ _
 
+-- a row whose switch is on is worked where rotation is not fixed
+pub worked : {enabled fixedRotation : Bool} → enabled ≡ true → fixedRotation ≡ false → isWorked enabled fixedRotation ≡ true
+unfolding isWorked
+worked on free = rw (on, free)
+
 -- a worked pair of limit rows
 module _ (relQ : Quat) (lowerAngle upperAngle : Float) (s : Softness) (invH : Float) (useBias : Bool) (mass : Float) (axis : Vec3) (oldLower oldUpper : Float) (m : InvMasses) (v : Velocities) where
   pub twist-lower-nonNegative : NonNegative (twistLimitRows true relQ lowerAngle upperAngle s invH useBias mass axis oldLower oldUpper m v .«lower_impulse»)
@@ -47,3 +56,31 @@ module _ (relQ : Quat) (lowerAngle upperAngle : Float) (s : Softness) (invH : Fl
   pub twist-upper-nonNegative : NonNegative (twistLimitRows true relQ lowerAngle upperAngle s invH useBias mass axis oldLower oldUpper m v .«upper_impulse»)
   unfolding twistLimitRows
   twist-upper-nonNegative = upperLimitRow-nonNegative _ _ _ _ _ _
+
+-- ---- a stage over a joint of any kind: `found` is the record of the kind called, where the joint has it; `refusal` answers for every other joint
+
+module _ {K A : Type 0} where
+  -- what a refusal and every work leave alike
+  pub kept : {B : Type 0} (f : A → B) (b : B) (found : Option K) (refusal : A) (work : K → A) → f refusal ≡ b → ((k : K) → f (work k) ≡ b) → f (Option·elim found refusal work) ≡ b
+  unfolding Option·elim
+  kept f b none refusal work p q = p
+  kept f b (some k) refusal work p q = q k
+
+  pub numbered : (number : A → ℕ) (found : Option K) (refusal : A) (work : K → A) → number refusal ≡ 1 → ((k : K) → number (work k) ≡ 0) → number (Option·elim found refusal work) ≡ cond (isSome found) 0 1
+  unfolding Option·elim
+  numbered number none refusal work p q = p
+  numbered number (some k) refusal work p q = q k
+
+  pub refused : (found : Option K) (refusal : A) (work : K → A) → isSome found ≡ false → Option·elim found refusal work ≡ refusal
+  unfolding Option·elim
+  refused none refusal work e = refl
+  refused (some k) refusal work e = cc
+
+  -- a joint of the kind stays one, and no other becomes one
+  pub case-kept : (union : A → JointUnion) (kindOf : JointUnion → Option K) (u : JointUnion) (refusal : A) (work : K → A) → union refusal ≡ u → ((k : K) → isSome (kindOf (union (work k))) ≡ true) → isSome (kindOf (union (Option·elim (kindOf u) refusal work))) ≡ isSome (kindOf u)
+  unfolding Option·elim
+  case-kept union kindOf u refusal work p q = go (kindOf u) refl
+    where
+      go : (found : Option K) → kindOf u ≡ found → isSome (kindOf (union (Option·elim found refusal work))) ≡ isSome found
+      go none e = rw (p, e)
+      go (some k) e = q k

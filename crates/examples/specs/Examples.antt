@@ -1,5 +1,6 @@
 -- Document 01's sixteen examples: a table of what the definitions give beside what they must give, and one theorem, that every row of it holds. Assumes nothing.
 use mathlib.Core.Path.{_≡_}
+use mathlib.Core.Option.{Option·elim}
 use mathlib.Core.Bool.{Bool, true, false, _&&_}
 use mathlib.Core.List.{List, [], _∷_}
 use Prim.Native.Nat.{ℕ}
@@ -168,5 +169,5 @@ all-hold (e ∷ es) h =
 
 -- the theorem of the sixteen: the checker computes the test
 pub sixteen : Every Holds table
-unfolding table example13 example14 example15 example16 Ieee.ofBits Ieee.neg Ieee.add Ieee.sub Ieee.mul Ieee.div Ieee.lt Ieee.eq Root.sqrt Scalar.absFloat Scalar.minFloat Scalar.maxFloat Scalar.clampFloat Scalar.atanUnit Scalar.atan2 Vector.add Vector.sub Vector.neg Vector.dot Vector.length Vector.normalize Vector.mulAdd Vector.mulSub Vector.mulSv Vector.cross Internal.add2 Internal.sub2 Internal.mulSv2 Quat.rotateVector Quat.dotQuat Quat.mulQuat Quat.invMulQuat Quat.conjugate Quat.negateQuat Quat.getTwistAngle Quat.deltaQuatToRotation Quat.getSwingAngle Matrix.det Matrix.mulMv Matrix.negateMat3 Matrix.addMm Matrix.mulMm Matrix.transpose Matrix.invertMatrix Matrix.solve3 Matrix.det2 Matrix.solve2 Matrix.skew Transform.subPos Solver.makeSoft Body.isDynamic Body.storeVelocities Velocity.velocitiesOf Velocity.invMassesOf Velocity.applyAxial Velocity.applyAxialFlipped Velocity.applyAngular Velocity.applyPoint Velocity.applyWarm Soft.softBias Soft.softBias2 Soft.softBias3 Soft.limitBias Soft.softImpulse Soft.softImpulse3 Soft.softImpulse3Products Rotation.samePolarity Rotation.relativeRotation Rotation.flippedRelativeRotation Angular.isWorked Angular.lowerLimitRow Angular.upperLimitRow Angular.angularRow Angular.twistLimitRows Point.pointBias Point.pointMass Point.pointCdot Point.pointCdotGrouped Prepare.prepareBase Prepare.awakeIndex Prepare.prepareFrame Prepare.axialMass R.springRow R.motorRow R.perpAxis R.perpBias R.perpMass R.softImpulse2Products R.perpAngularImpulse R.collinearRow R.perpRow R.pointRow R.jointRotation R.solveSpring R.solveMotor R.solveLimits R.solvePerp R.solvePoint R.solveRevolute R.warmAngularImpulse R.warmStartRevolute R.keepImpulses R.prepareRevolute R.prepareRevoluteUnion R.prepareRevoluteJoint W.rowSpring W.keepImpulses W.prepareWeld W.warmStartWeld W.isSoft W.angularBias W.weldAngularRow W.pointRow W.solveAngular W.solvePoint W.solveWeld W.prepareWeldUnion W.prepareWeldJoint Stage.warmStartJoint Stage.solveJoint Stage.stageJoint Scene.store Direct.cause Direct.directCall
+unfolding table example13 example14 example15 example16 Option·elim Ieee.ofBits Ieee.neg Ieee.add Ieee.sub Ieee.mul Ieee.div Ieee.lt Ieee.eq Root.sqrt Scalar.absFloat Scalar.minFloat Scalar.maxFloat Scalar.clampFloat Scalar.atanUnit Scalar.atan2 Vector.add Vector.sub Vector.neg Vector.dot Vector.length Vector.normalize Vector.mulAdd Vector.mulSub Vector.mulSv Vector.cross Internal.add2 Internal.sub2 Internal.mulSv2 Quat.rotateVector Quat.dotQuat Quat.mulQuat Quat.invMulQuat Quat.conjugate Quat.negateQuat Quat.getTwistAngle Quat.deltaQuatToRotation Quat.getSwingAngle Matrix.det Matrix.mulMv Matrix.negateMat3 Matrix.addMm Matrix.mulMm Matrix.transpose Matrix.invertMatrix Matrix.solve3 Matrix.det2 Matrix.solve2 Matrix.skew Transform.subPos Solver.makeSoft Body.isDynamic Body.storeVelocities Velocity.velocitiesOf Velocity.invMassesOf Velocity.applyAxial Velocity.applyAxialFlipped Velocity.applyAngular Velocity.applyPoint Velocity.applyWarm Soft.softBias Soft.softBias2 Soft.softBias3 Soft.limitBias Soft.softImpulse Soft.softImpulse3 Soft.softImpulse3Products Rotation.samePolarity Rotation.relativeRotation Rotation.flippedRelativeRotation Angular.isWorked Angular.lowerLimitRow Angular.upperLimitRow Angular.angularRow Angular.twistLimitRows Point.pointBias Point.pointMass Point.pointCdot Point.pointCdotGrouped Prepare.prepareBase Prepare.awakeIndex Prepare.prepareFrame Prepare.axialMass R.springRow R.motorRow R.perpAxis R.perpBias R.perpMass R.softImpulse2Products R.perpAngularImpulse R.collinearRow R.perpRow R.pointRow R.jointRotation R.solveSpring R.solveMotor R.solveLimits R.solvePerp R.solvePoint R.solveRevolute R.warmAngularImpulse R.warmStartRevolute R.keepImpulses R.prepareRevolute R.prepareRevoluteJoint W.rowSpring W.keepImpulses W.prepareWeld W.warmStartWeld W.isSoft W.angularBias W.weldAngularRow W.pointRow W.solveAngular W.solvePoint W.solveWeld W.prepareWeldJoint Stage.warmStartJoint Stage.solveJoint Stage.stageJoint Scene.store Direct.cause Direct.directCall
 sixteen = all-hold table tt

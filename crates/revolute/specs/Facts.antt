@@ -1,6 +1,6 @@
 -- What holds of the revolute joint's stages, for all inputs: the limits' impulses, what a stage changes, what it reads, and when it refuses. Assumes nothing.
 use Prim.Native.Nat.{ℕ}
-use mathlib.Core.Path.{_≡_, refl, ap}
+use mathlib.Core.Path.{_≡_, refl}
 use mathlib.Core.Bool.{Bool, true, false, cond}
 use lib.Ieee as Ieee
 use lib.Ieee.{Float, fin}
@@ -13,14 +13,15 @@ use Rattle.records.specs.declared.body.BodyRecord.{BodyRecord}
 use Rattle.records.specs.declared.joint.RevoluteJoint.{RevoluteJoint}
 use Rattle.records.specs.declared.joint.JointBase.{JointBase}
 use Rattle.records.specs.declared.joint.JointSim.{JointSim}
-use Rattle.records.specs.declared.joint.JointUnion.{JointUnion}
-use Rattle.records.specs.declared.joint.JointUnion.the-variants.{Revolute, Spherical, Weld, Other}
+use Rattle.records.specs.Joint.{asRevolute, isRevolute}
+use Rattle.constraint.specs.declared.answer.Prepared.{Prepared}
+use Rattle.constraint.specs.declared.answer.WarmStarted.{WarmStarted}
+use Rattle.constraint.specs.declared.answer.Solved.{Solved}
 use Rattle.constraint.specs.Velocity.{velocitiesOf}
-use Rattle.constraint.specs.Angular.{isWorked}
 use Rattle.constraint.specs.Answer.{notPrepared, notWarmStarted, notSolved}
-use Rattle.constraint.specs.Facts.{NonNegative, twist-lower-nonNegative, twist-upper-nonNegative}
+use Rattle.constraint.specs.Facts.{NonNegative, worked, twist-lower-nonNegative, twist-upper-nonNegative, kept, numbered, refused, case-kept}
 use Rattle.revolute.specs.Revolute.{half, withImpulses, jointRotation, solveSpring, solveMotor, solveLimits, solvePerp, solvePoint, revoluteSolved, solveRevolute, warmAngularImpulse, warmStartRevolute}
-use Rattle.revolute.specs.Revolute.{isRevolute, prepareRevoluteUnion, prepareRevoluteJoint, warmStartRevoluteUnion, warmStartRevoluteJoint, solveRevoluteUnion, solveRevoluteJoint}
+use Rattle.revolute.specs.Revolute.{prepareRevoluteJoint, warmStartRevoluteJoint, solveRevoluteJoint}
 
 -- 0.5 is 2 ^ -1
 pub half-is : half ≡ fin false 1 (negsuc 0)
@@ -28,11 +29,6 @@ unfolding Ieee.ofBits
 half-is = refl
 
 -- ---- the stages by value
-
--- a switch that is on, in a joint whose rotation is not fixed
-worked : {enabled fixedRotation : Bool} → enabled ≡ true → fixedRotation ≡ false → isWorked enabled fixedRotation ≡ true
-unfolding isWorked
-worked on free = rw (on, free)
 
 -- what is said of the limits: `next` is the joint `j` after a solve
 pub record LimitsNonNegative (j next : RevoluteJoint) : Type 0 where
@@ -145,112 +141,52 @@ solve-context sim c d stateA stateB useBias same-h same-inv-h = rw (same-h, same
 module _ (sim : JointSim) (context : StepContext) (bodyA bodyB : BodyRecord) where
   -- the number is 1 exactly where the case is another
   pub prepare-number : prepareRevoluteJoint sim context bodyA bodyB .number ≡ cond (isRevolute (sim .«union_»)) 0 1
-  unfolding prepareRevoluteJoint prepareRevoluteUnion
-  prepare-number = go (sim .«union_»)
-    where
-      go : (u : JointUnion) → prepareRevoluteUnion u sim (context .h) (context .«enable_warm_starting») bodyA bodyB .number ≡ cond (isRevolute u) 0 1
-      go (Revolute j) = refl
-      go (Spherical j) = refl
-      go (Weld j) = refl
-      go Other = refl
+  unfolding prepareRevoluteJoint
+  prepare-number = numbered (λ (r : Prepared). r .number) (asRevolute (sim .«union_»)) _ _ refl (λ k. refl)
 
   -- and then the joint is as it was
   pub prepare-refused : isRevolute (sim .«union_») ≡ false → prepareRevoluteJoint sim context bodyA bodyB ≡ notPrepared sim
-  unfolding prepareRevoluteJoint prepareRevoluteUnion
-  prepare-refused = go (sim .«union_»)
-    where
-      go : (u : JointUnion) → isRevolute u ≡ false → prepareRevoluteUnion u sim (context .h) (context .«enable_warm_starting») bodyA bodyB ≡ notPrepared sim
-      go (Revolute j) e = cc
-      go (Spherical j) e = refl
-      go (Weld j) e = refl
-      go Other e = refl
+  unfolding prepareRevoluteJoint
+  prepare-refused = refused (asRevolute (sim .«union_»)) _ _
 
   -- a revolute joint stays one, and no other becomes one
   pub prepare-case : isRevolute (prepareRevoluteJoint sim context bodyA bodyB .joint .«union_») ≡ isRevolute (sim .«union_»)
-  unfolding prepareRevoluteJoint prepareRevoluteUnion
-  prepare-case = go (sim .«union_») refl
-    where
-      go : (u : JointUnion) → sim .«union_» ≡ u → isRevolute (prepareRevoluteUnion u sim (context .h) (context .«enable_warm_starting») bodyA bodyB .joint .«union_») ≡ isRevolute u
-      go (Revolute j) e = refl
-      go (Spherical j) e = ap isRevolute e
-      go (Weld j) e = ap isRevolute e
-      go Other e = ap isRevolute e
+  unfolding prepareRevoluteJoint
+  prepare-case = case-kept (λ (r : Prepared). r .joint .«union_») asRevolute (sim .«union_») _ _ refl (λ k. refl)
 
 module _ (sim : JointSim) (stateA stateB : BodyState) where
   -- a warm start changes no field of the joint
   pub warm-start-joint : warmStartRevoluteJoint sim stateA stateB .joint ≡ sim
-  unfolding warmStartRevoluteJoint warmStartRevoluteUnion
-  warm-start-joint = go (sim .«union_»)
-    where
-      go : (u : JointUnion) → warmStartRevoluteUnion u sim stateA stateB .joint ≡ sim
-      go (Revolute j) = refl
-      go (Spherical j) = refl
-      go (Weld j) = refl
-      go Other = refl
+  unfolding warmStartRevoluteJoint
+  warm-start-joint = kept (λ (r : WarmStarted). r .joint) sim (asRevolute (sim .«union_»)) _ _ refl (λ k. refl)
 
   -- the number is 1 exactly where the case is another
   pub warm-start-number : warmStartRevoluteJoint sim stateA stateB .number ≡ cond (isRevolute (sim .«union_»)) 0 1
-  unfolding warmStartRevoluteJoint warmStartRevoluteUnion
-  warm-start-number = go (sim .«union_»)
-    where
-      go : (u : JointUnion) → warmStartRevoluteUnion u sim stateA stateB .number ≡ cond (isRevolute u) 0 1
-      go (Revolute j) = refl
-      go (Spherical j) = refl
-      go (Weld j) = refl
-      go Other = refl
+  unfolding warmStartRevoluteJoint
+  warm-start-number = numbered (λ (r : WarmStarted). r .number) (asRevolute (sim .«union_»)) _ _ refl (λ k. refl)
 
   -- and then joint and velocities are as they were
   pub warm-start-refused : isRevolute (sim .«union_») ≡ false → warmStartRevoluteJoint sim stateA stateB ≡ notWarmStarted sim stateA stateB
-  unfolding warmStartRevoluteJoint warmStartRevoluteUnion
-  warm-start-refused = go (sim .«union_»)
-    where
-      go : (u : JointUnion) → isRevolute u ≡ false → warmStartRevoluteUnion u sim stateA stateB ≡ notWarmStarted sim stateA stateB
-      go (Revolute j) e = cc
-      go (Spherical j) e = refl
-      go (Weld j) e = refl
-      go Other e = refl
+  unfolding warmStartRevoluteJoint
+  warm-start-refused = refused (asRevolute (sim .«union_»)) _ _
 
 module _ (sim : JointSim) (context : StepContext) (stateA stateB : BodyState) (useBias : Bool) where
   -- a solve changes nothing of the joint but the revolute record
   pub solve-base : solveRevoluteJoint sim context stateA stateB useBias .joint .base ≡ sim .base
-  unfolding solveRevoluteJoint solveRevoluteUnion
-  solve-base = go (sim .«union_»)
-    where
-      go : (u : JointUnion) → solveRevoluteUnion u sim (context .h) (context .«inv_h») stateA stateB useBias .joint .base ≡ sim .base
-      go (Revolute j) = refl
-      go (Spherical j) = refl
-      go (Weld j) = refl
-      go Other = refl
+  unfolding solveRevoluteJoint
+  solve-base = kept (λ (r : Solved). r .joint .base) (sim .base) (asRevolute (sim .«union_»)) _ _ refl (λ k. refl)
 
   -- a revolute joint stays one, and no other becomes one
   pub solve-case : isRevolute (solveRevoluteJoint sim context stateA stateB useBias .joint .«union_») ≡ isRevolute (sim .«union_»)
-  unfolding solveRevoluteJoint solveRevoluteUnion
-  solve-case = go (sim .«union_») refl
-    where
-      go : (u : JointUnion) → sim .«union_» ≡ u → isRevolute (solveRevoluteUnion u sim (context .h) (context .«inv_h») stateA stateB useBias .joint .«union_») ≡ isRevolute u
-      go (Revolute j) e = refl
-      go (Spherical j) e = ap isRevolute e
-      go (Weld j) e = ap isRevolute e
-      go Other e = ap isRevolute e
+  unfolding solveRevoluteJoint
+  solve-case = case-kept (λ (r : Solved). r .joint .«union_») asRevolute (sim .«union_») _ _ refl (λ k. refl)
 
   -- the number is 1 exactly where the case is another
   pub solve-number : solveRevoluteJoint sim context stateA stateB useBias .number ≡ cond (isRevolute (sim .«union_»)) 0 1
-  unfolding solveRevoluteJoint solveRevoluteUnion
-  solve-number = go (sim .«union_»)
-    where
-      go : (u : JointUnion) → solveRevoluteUnion u sim (context .h) (context .«inv_h») stateA stateB useBias .number ≡ cond (isRevolute u) 0 1
-      go (Revolute j) = refl
-      go (Spherical j) = refl
-      go (Weld j) = refl
-      go Other = refl
+  unfolding solveRevoluteJoint
+  solve-number = numbered (λ (r : Solved). r .number) (asRevolute (sim .«union_»)) _ _ refl (λ k. refl)
 
   -- and then joint and velocities are as they were
   pub solve-refused : isRevolute (sim .«union_») ≡ false → solveRevoluteJoint sim context stateA stateB useBias ≡ notSolved sim stateA stateB
-  unfolding solveRevoluteJoint solveRevoluteUnion
-  solve-refused = go (sim .«union_»)
-    where
-      go : (u : JointUnion) → isRevolute u ≡ false → solveRevoluteUnion u sim (context .h) (context .«inv_h») stateA stateB useBias ≡ notSolved sim stateA stateB
-      go (Revolute j) e = cc
-      go (Spherical j) e = refl
-      go (Weld j) e = refl
-      go Other e = refl
+  unfolding solveRevoluteJoint
+  solve-refused = refused (asRevolute (sim .«union_»)) _ _

@@ -1,5 +1,6 @@
 -- joint/revolute.rs: the rows of the revolute joint and its three stages. Definitions only. Assumes nothing.
-use mathlib.Core.Bool.{Bool, true, false, not, cond}
+use mathlib.Core.Bool.{Bool, not, cond}
+use mathlib.Core.Option.{Option·elim}
 use lib.Ieee.{Float}
 use lib.IntN.{ℤ}
 use Rattle.math_functions.specs.declared.types.Vec2.{Vec2}
@@ -24,8 +25,8 @@ use Rattle.records.specs.declared.body.BodyRecord.{BodyRecord}
 use Rattle.records.specs.declared.joint.RevoluteJoint.{RevoluteJoint}
 use Rattle.records.specs.declared.joint.JointBase.{JointBase}
 use Rattle.records.specs.declared.joint.JointSim.{JointSim}
-use Rattle.records.specs.declared.joint.JointUnion.{JointUnion}
-use Rattle.records.specs.declared.joint.JointUnion.the-variants.{Revolute, Spherical, Weld, Other}
+use Rattle.records.specs.declared.joint.JointUnion.the-variants.{Revolute}
+use Rattle.records.specs.Joint.{asRevolute}
 use Rattle.constraint.specs.declared.velocity.Velocities.{Velocities}
 use Rattle.constraint.specs.declared.velocity.InvMasses.{InvMasses}
 use Rattle.constraint.specs.declared.rotation.RelativeRotation.{RelativeRotation}
@@ -51,7 +52,7 @@ use Rattle.revolute.specs.declared.stages.RevoluteSolved.{RevoluteSolved
 abbrev pub half : Float
 half = lit 0x3f00_0000
 
--- ---- rows: each takes the fields that it reads. Its first parameter says whether it is worked; if not, it leaves all as it was
+-- ---- rows: each takes the fields that it reads. The first parameter of a row that can be skipped says whether it is worked; if not, it leaves all as it was
 
 -- document 01's spring: of one dimension, about the rotation axis (spherical's is of three)
 unfoldable pub springRow : Bool → Quat → Float → Softness → Float → Vec3 → Float → InvMasses → Velocities → AxialRow
@@ -277,42 +278,20 @@ prepareRevolute base j h enableWarmStarting bodyA bodyB =
 
 -- ---- the stages over a joint of any kind: one whose case is not Revolute gets number 1, place 0, and nothing is altered
 
--- is the joint's case the kind called?
-abbrev pub isRevolute : JointUnion → Bool
-isRevolute (Revolute j) = true
-isRevolute (Spherical j) = false
-isRevolute (Weld j) = false
-isRevolute Other = false
-
-unfoldable pub prepareRevoluteUnion : JointUnion → JointSim → Float → Bool → BodyRecord → BodyRecord → Prepared
-prepareRevoluteUnion (Revolute j) sim h enableWarmStarting bodyA bodyB =
-    let r = prepareRevolute (sim .base) j h enableWarmStarting bodyA bodyB in
-    prepared (jointSim (r .base) (Revolute (r .joint)))
-prepareRevoluteUnion (Spherical j) sim h enableWarmStarting bodyA bodyB = notPrepared sim
-prepareRevoluteUnion (Weld j) sim h enableWarmStarting bodyA bodyB = notPrepared sim
-prepareRevoluteUnion Other sim h enableWarmStarting bodyA bodyB = notPrepared sim
-
 -- of the context h and enable_warm_starting
 unfoldable pub prepareRevoluteJoint : JointSim → StepContext → BodyRecord → BodyRecord → Prepared
-prepareRevoluteJoint sim context bodyA bodyB = prepareRevoluteUnion (sim .«union_») sim (context .h) (context .«enable_warm_starting») bodyA bodyB
-
-unfoldable pub warmStartRevoluteUnion : JointUnion → JointSim → BodyState → BodyState → WarmStarted
-warmStartRevoluteUnion (Revolute j) sim stateA stateB = warmStarted sim (warmStartRevolute (sim .base) j stateA stateB)
-warmStartRevoluteUnion (Spherical j) sim stateA stateB = notWarmStarted sim stateA stateB
-warmStartRevoluteUnion (Weld j) sim stateA stateB = notWarmStarted sim stateA stateB
-warmStartRevoluteUnion Other sim stateA stateB = notWarmStarted sim stateA stateB
+prepareRevoluteJoint sim context bodyA bodyB =
+    Option·elim (asRevolute (sim .«union_»)) (notPrepared sim) λ j.
+    let r = prepareRevolute (sim .base) j (context .h) (context .«enable_warm_starting») bodyA bodyB in
+    prepared (jointSim (r .base) (Revolute (r .joint)))
 
 unfoldable pub warmStartRevoluteJoint : JointSim → BodyState → BodyState → WarmStarted
-warmStartRevoluteJoint sim stateA stateB = warmStartRevoluteUnion (sim .«union_») sim stateA stateB
-
-unfoldable pub solveRevoluteUnion : JointUnion → JointSim → Float → Float → BodyState → BodyState → Bool → Solved
-solveRevoluteUnion (Revolute j) sim h invH stateA stateB useBias =
-    let r = solveRevolute (sim .base) j h invH stateA stateB useBias in
-    solved (jointSim (sim .base) (Revolute (r .joint))) (r .velocities)
-solveRevoluteUnion (Spherical j) sim h invH stateA stateB useBias = notSolved sim stateA stateB
-solveRevoluteUnion (Weld j) sim h invH stateA stateB useBias = notSolved sim stateA stateB
-solveRevoluteUnion Other sim h invH stateA stateB useBias = notSolved sim stateA stateB
+warmStartRevoluteJoint sim stateA stateB =
+    Option·elim (asRevolute (sim .«union_»)) (notWarmStarted sim stateA stateB) λ j. warmStarted sim (warmStartRevolute (sim .base) j stateA stateB)
 
 -- of the context h and inv_h
 unfoldable pub solveRevoluteJoint : JointSim → StepContext → BodyState → BodyState → Bool → Solved
-solveRevoluteJoint sim context stateA stateB useBias = solveRevoluteUnion (sim .«union_») sim (context .h) (context .«inv_h») stateA stateB useBias
+solveRevoluteJoint sim context stateA stateB useBias =
+    Option·elim (asRevolute (sim .«union_»)) (notSolved sim stateA stateB) λ j.
+    let r = solveRevolute (sim .base) j (context .h) (context .«inv_h») stateA stateB useBias in
+    solved (jointSim (sim .base) (Revolute (r .joint))) (r .velocities)

@@ -1,3 +1,2 @@
 -- What the functions' proofs cite. Assumes nothing.
-mod Cases
 mod One

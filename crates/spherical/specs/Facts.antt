@@ -1,6 +1,6 @@
 -- What holds of the spherical stages for all inputs: which impulses are never negative, which fields a solve may change, what a stage reads, and what a call on a
 -- joint leaves. Assumes nothing.
-use mathlib.Core.Path.{_≡_, refl, ap}
+use mathlib.Core.Path.{_≡_, refl}
 use mathlib.Core.Bool.{Bool, true, false, cond}
 use Prim.Native.Nat.{ℕ}
 use lib.Ieee.{Float}
@@ -14,23 +14,19 @@ use Rattle.records.specs.declared.body.BodyState.{BodyState}
 use Rattle.records.specs.Body.{withFlags, withDeltaPosition}
 use Rattle.records.specs.declared.joint.JointBase.{JointBase}
 use Rattle.records.specs.declared.joint.JointSim.{JointSim}
-use Rattle.records.specs.declared.joint.JointUnion.{JointUnion}
-use Rattle.records.specs.declared.joint.JointUnion.the-variants.{Revolute, Spherical, Weld, Other}
+use Rattle.records.specs.Joint.{asSpherical, isSpherical}
 use Rattle.records.specs.declared.joint.SphericalJoint.{SphericalJoint}
 use Rattle.constraint.specs.declared.velocity.Velocities.{Velocities}
 use Rattle.constraint.specs.declared.velocity.InvMasses.{InvMasses}
+use Rattle.constraint.specs.declared.answer.Prepared.{Prepared}
+use Rattle.constraint.specs.declared.answer.WarmStarted.{WarmStarted}
+use Rattle.constraint.specs.declared.answer.Solved.{Solved}
 use Rattle.constraint.specs.Velocity.{velocitiesOf}
-use Rattle.constraint.specs.Angular.{isWorked}
 use Rattle.constraint.specs.Answer.{notPrepared, notWarmStarted, notSolved}
-use Rattle.constraint.specs.Facts.{NonNegative, upperLimitRow-nonNegative, twist-lower-nonNegative, twist-upper-nonNegative}
-use Rattle.spherical.specs.Spherical.{withImpulses, coneRow, sphericalSolved, warmStartSpherical, solveSpherical, isSpherical, prepareSphericalUnion, prepareSphericalJoint, warmStartSphericalUnion, warmStartSphericalJoint, solveSphericalUnion, solveSphericalJoint}
+use Rattle.constraint.specs.Facts.{NonNegative, worked, upperLimitRow-nonNegative, twist-lower-nonNegative, twist-upper-nonNegative, kept, numbered, refused, case-kept}
+use Rattle.spherical.specs.Spherical.{withImpulses, coneRow, sphericalSolved, warmStartSpherical, solveSpherical, prepareSphericalJoint, warmStartSphericalJoint, solveSphericalJoint}
 
 -- ---- limits
-
--- a row whose switch is on is worked where rotation is not fixed
-worked : (enabled fixedRotation : Bool) → enabled ≡ true → fixedRotation ≡ false → isWorked enabled fixedRotation ≡ true
-unfolding isWorked
-worked enabled fixedRotation on free = rw (on, free)
 
 pub coneRow-nonNegative : (relQ : Quat) (coneAngle : Float) (s : Softness) (invH : Float) (useBias : Bool) (mass : Float) (axis : Vec3) (old : Float) (m : InvMasses) (v : Velocities) → NonNegative (coneRow true relQ coneAngle s invH useBias mass axis old m v .impulse)
 unfolding coneRow
@@ -46,15 +42,15 @@ module _ (base : JointBase) (j : SphericalJoint) (h invH : Float) (stateA stateB
   -- After a solve with rotation not fixed each limit that is on has impulses that are zero or positive, and no NaN.
   pub solve-lower-twist-nonNegative : base .«fixed_rotation» ≡ false → j .«enable_twist_limit» ≡ true → NonNegative (solveSpherical base j h invH stateA stateB useBias .joint .«lower_twist_impulse»)
   unfolding solveSpherical
-  solve-lower-twist-nonNegative free on = rw (worked _ _ on free) (twist-lower-nonNegative _ _ _ _ _ _ _ _ _ _ _ _)
+  solve-lower-twist-nonNegative free on = rw (worked on free) (twist-lower-nonNegative _ _ _ _ _ _ _ _ _ _ _ _)
 
   pub solve-upper-twist-nonNegative : base .«fixed_rotation» ≡ false → j .«enable_twist_limit» ≡ true → NonNegative (solveSpherical base j h invH stateA stateB useBias .joint .«upper_twist_impulse»)
   unfolding solveSpherical
-  solve-upper-twist-nonNegative free on = rw (worked _ _ on free) (twist-upper-nonNegative _ _ _ _ _ _ _ _ _ _ _ _)
+  solve-upper-twist-nonNegative free on = rw (worked on free) (twist-upper-nonNegative _ _ _ _ _ _ _ _ _ _ _ _)
 
   pub solve-swing-nonNegative : base .«fixed_rotation» ≡ false → j .«enable_cone_limit» ≡ true → NonNegative (solveSpherical base j h invH stateA stateB useBias .joint .«swing_impulse»)
   unfolding solveSpherical
-  solve-swing-nonNegative free on = rw (worked _ _ on free) (coneRow-nonNegative _ _ _ _ _ _ _ _ _ _)
+  solve-swing-nonNegative free on = rw (worked on free) (coneRow-nonNegative _ _ _ _ _ _ _ _ _ _)
 
   pub solve-limits : base .«fixed_rotation» ≡ false → LimitsNonNegative j (solveSpherical base j h invH stateA stateB useBias .joint)
   solve-limits free =
@@ -160,112 +156,52 @@ solve-context sim context other stateA stateB useBias same-h same-inv-h = rw (sa
 module _ (sim : JointSim) (context : StepContext) (bodyA bodyB : BodyRecord) where
   -- the number is 1 exactly where the case is another
   pub prepare-number : prepareSphericalJoint sim context bodyA bodyB .number ≡ cond (isSpherical (sim .«union_»)) 0 1
-  unfolding prepareSphericalJoint prepareSphericalUnion
-  prepare-number = go (sim .«union_»)
-    where
-      go : (u : JointUnion) → prepareSphericalUnion u sim (context .h) (context .«enable_warm_starting») bodyA bodyB .number ≡ cond (isSpherical u) 0 1
-      go (Revolute j) = refl
-      go (Spherical j) = refl
-      go (Weld j) = refl
-      go Other = refl
+  unfolding prepareSphericalJoint
+  prepare-number = numbered (λ (r : Prepared). r .number) (asSpherical (sim .«union_»)) _ _ refl (λ k. refl)
 
   -- and then the joint is as it was
   pub prepare-refused : isSpherical (sim .«union_») ≡ false → prepareSphericalJoint sim context bodyA bodyB ≡ notPrepared sim
-  unfolding prepareSphericalJoint prepareSphericalUnion
-  prepare-refused = go (sim .«union_»)
-    where
-      go : (u : JointUnion) → isSpherical u ≡ false → prepareSphericalUnion u sim (context .h) (context .«enable_warm_starting») bodyA bodyB ≡ notPrepared sim
-      go (Revolute j) e = refl
-      go (Spherical j) e = cc
-      go (Weld j) e = refl
-      go Other e = refl
+  unfolding prepareSphericalJoint
+  prepare-refused = refused (asSpherical (sim .«union_»)) _ _
 
   -- a spherical joint stays one, and no other becomes one
   pub prepare-case : isSpherical (prepareSphericalJoint sim context bodyA bodyB .joint .«union_») ≡ isSpherical (sim .«union_»)
-  unfolding prepareSphericalJoint prepareSphericalUnion
-  prepare-case = go (sim .«union_») refl
-    where
-      go : (u : JointUnion) → sim .«union_» ≡ u → isSpherical (prepareSphericalUnion u sim (context .h) (context .«enable_warm_starting») bodyA bodyB .joint .«union_») ≡ isSpherical u
-      go (Revolute j) e = ap isSpherical e
-      go (Spherical j) e = refl
-      go (Weld j) e = ap isSpherical e
-      go Other e = ap isSpherical e
+  unfolding prepareSphericalJoint
+  prepare-case = case-kept (λ (r : Prepared). r .joint .«union_») asSpherical (sim .«union_») _ _ refl (λ k. refl)
 
 module _ (sim : JointSim) (stateA stateB : BodyState) where
   -- a warm start changes no field of the joint
   pub warm-start-joint : warmStartSphericalJoint sim stateA stateB .joint ≡ sim
-  unfolding warmStartSphericalJoint warmStartSphericalUnion
-  warm-start-joint = go (sim .«union_»)
-    where
-      go : (u : JointUnion) → warmStartSphericalUnion u sim stateA stateB .joint ≡ sim
-      go (Revolute j) = refl
-      go (Spherical j) = refl
-      go (Weld j) = refl
-      go Other = refl
+  unfolding warmStartSphericalJoint
+  warm-start-joint = kept (λ (r : WarmStarted). r .joint) sim (asSpherical (sim .«union_»)) _ _ refl (λ k. refl)
 
   -- the number is 1 exactly where the case is another
   pub warm-start-number : warmStartSphericalJoint sim stateA stateB .number ≡ cond (isSpherical (sim .«union_»)) 0 1
-  unfolding warmStartSphericalJoint warmStartSphericalUnion
-  warm-start-number = go (sim .«union_»)
-    where
-      go : (u : JointUnion) → warmStartSphericalUnion u sim stateA stateB .number ≡ cond (isSpherical u) 0 1
-      go (Revolute j) = refl
-      go (Spherical j) = refl
-      go (Weld j) = refl
-      go Other = refl
+  unfolding warmStartSphericalJoint
+  warm-start-number = numbered (λ (r : WarmStarted). r .number) (asSpherical (sim .«union_»)) _ _ refl (λ k. refl)
 
   -- and then joint and velocities are as they were
   pub warm-start-refused : isSpherical (sim .«union_») ≡ false → warmStartSphericalJoint sim stateA stateB ≡ notWarmStarted sim stateA stateB
-  unfolding warmStartSphericalJoint warmStartSphericalUnion
-  warm-start-refused = go (sim .«union_»)
-    where
-      go : (u : JointUnion) → isSpherical u ≡ false → warmStartSphericalUnion u sim stateA stateB ≡ notWarmStarted sim stateA stateB
-      go (Revolute j) e = refl
-      go (Spherical j) e = cc
-      go (Weld j) e = refl
-      go Other e = refl
+  unfolding warmStartSphericalJoint
+  warm-start-refused = refused (asSpherical (sim .«union_»)) _ _
 
 module _ (sim : JointSim) (context : StepContext) (stateA stateB : BodyState) (useBias : Bool) where
   -- a solve changes nothing of the joint but the spherical record
   pub solve-base : solveSphericalJoint sim context stateA stateB useBias .joint .base ≡ sim .base
-  unfolding solveSphericalJoint solveSphericalUnion
-  solve-base = go (sim .«union_»)
-    where
-      go : (u : JointUnion) → solveSphericalUnion u sim (context .h) (context .«inv_h») stateA stateB useBias .joint .base ≡ sim .base
-      go (Revolute j) = refl
-      go (Spherical j) = refl
-      go (Weld j) = refl
-      go Other = refl
+  unfolding solveSphericalJoint
+  solve-base = kept (λ (r : Solved). r .joint .base) (sim .base) (asSpherical (sim .«union_»)) _ _ refl (λ k. refl)
 
   -- a spherical joint stays one, and no other becomes one
   pub solve-case : isSpherical (solveSphericalJoint sim context stateA stateB useBias .joint .«union_») ≡ isSpherical (sim .«union_»)
-  unfolding solveSphericalJoint solveSphericalUnion
-  solve-case = go (sim .«union_») refl
-    where
-      go : (u : JointUnion) → sim .«union_» ≡ u → isSpherical (solveSphericalUnion u sim (context .h) (context .«inv_h») stateA stateB useBias .joint .«union_») ≡ isSpherical u
-      go (Revolute j) e = ap isSpherical e
-      go (Spherical j) e = refl
-      go (Weld j) e = ap isSpherical e
-      go Other e = ap isSpherical e
+  unfolding solveSphericalJoint
+  solve-case = case-kept (λ (r : Solved). r .joint .«union_») asSpherical (sim .«union_») _ _ refl (λ k. refl)
 
   -- the number is 1 exactly where the case is another
   pub solve-number : solveSphericalJoint sim context stateA stateB useBias .number ≡ cond (isSpherical (sim .«union_»)) 0 1
-  unfolding solveSphericalJoint solveSphericalUnion
-  solve-number = go (sim .«union_»)
-    where
-      go : (u : JointUnion) → solveSphericalUnion u sim (context .h) (context .«inv_h») stateA stateB useBias .number ≡ cond (isSpherical u) 0 1
-      go (Revolute j) = refl
-      go (Spherical j) = refl
-      go (Weld j) = refl
-      go Other = refl
+  unfolding solveSphericalJoint
+  solve-number = numbered (λ (r : Solved). r .number) (asSpherical (sim .«union_»)) _ _ refl (λ k. refl)
 
   -- and then joint and velocities are as they were
   pub solve-refused : isSpherical (sim .«union_») ≡ false → solveSphericalJoint sim context stateA stateB useBias ≡ notSolved sim stateA stateB
-  unfolding solveSphericalJoint solveSphericalUnion
-  solve-refused = go (sim .«union_»)
-    where
-      go : (u : JointUnion) → isSpherical u ≡ false → solveSphericalUnion u sim (context .h) (context .«inv_h») stateA stateB useBias ≡ notSolved sim stateA stateB
-      go (Revolute j) e = refl
-      go (Spherical j) e = cc
-      go (Weld j) e = refl
-      go Other e = refl
+  unfolding solveSphericalJoint
+  solve-refused = refused (asSpherical (sim .«union_»)) _ _

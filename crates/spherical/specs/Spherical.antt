@@ -1,5 +1,6 @@
 -- joint/spherical.rs: prepare, warm start and solve of a ball joint. Definitions only. Assumes nothing.
-use mathlib.Core.Bool.{Bool, true, false, not, cond}
+use mathlib.Core.Bool.{Bool, not, cond}
+use mathlib.Core.Option.{Option·elim}
 use lib.Ieee.{Float}
 use lib.IntN.{ℤ}
 use Rattle.sqrt.specs.Sqrt.{sqrt}
@@ -20,9 +21,9 @@ use Rattle.records.specs.declared.body.BodyRecord.{BodyRecord}
 use Rattle.records.specs.declared.body.BodyState.{BodyState}
 use Rattle.records.specs.declared.joint.JointBase.{JointBase}
 use Rattle.records.specs.declared.joint.JointSim.{JointSim}
-use Rattle.records.specs.declared.joint.JointUnion.{JointUnion}
-use Rattle.records.specs.declared.joint.JointUnion.the-variants.{Revolute, Spherical, Weld, Other}
+use Rattle.records.specs.declared.joint.JointUnion.the-variants.{Spherical}
 use Rattle.records.specs.declared.joint.SphericalJoint.{SphericalJoint}
+use Rattle.records.specs.Joint.{asSpherical}
 use Rattle.constraint.specs.declared.velocity.Velocities.{Velocities}
 use Rattle.constraint.specs.declared.velocity.InvMasses.{InvMasses}
 use Rattle.constraint.specs.declared.rotation.RelativeRotation.{RelativeRotation}
@@ -182,8 +183,8 @@ unfoldable pub prepareRotationMass : Bool → Matrix3 → Matrix3
 prepareRotationMass fixedRotation invInertiaSum = cond (not fixedRotation) (invertMatrix invInertiaSum) mat3Zero
 
 -- impulses are cleared only if warm starting is off
-unfoldable pub prepareImpulses : SphericalJoint → Bool → SphericalJoint
-prepareImpulses j enableWarmStarting = cond (not enableWarmStarting) (withImpulses j vec3Zero vec3Zero vec3Zero zero zero zero) j
+unfoldable pub keepImpulses : SphericalJoint → Bool → SphericalJoint
+keepImpulses j enableWarmStarting = cond (not enableWarmStarting) (withImpulses j vec3Zero vec3Zero vec3Zero zero zero zero) j
 
 -- ---- the stages
 
@@ -205,7 +206,7 @@ prepareSpherical base j h enableWarmStarting bodyA bodyB =
     let rotationMass = prepareRotationMass (next .«fixed_rotation») invInertiaSum in
     let springSoftness = makeSoft (j .hertz) (j .«damping_ratio») h in
     let out = withPrepared j (awakeIndex bodyA) (awakeIndex bodyB) frameA frameB deltaCenter swing twist rotationMass springSoftness in
-    sphericalPrepared next (prepareImpulses out enableWarmStarting)
+    sphericalPrepared next (keepImpulses out enableWarmStarting)
 
 -- The swing impulse is subtracted. Of a state only the velocities and the delta rotation are read.
 unfoldable pub warmStartSpherical : JointBase → SphericalJoint → BodyState → BodyState → Velocities
@@ -251,44 +252,20 @@ solveSpherical base j h invH stateA stateB useBias =
 
 -- ---- the stages over a joint of any kind: one whose case is not Spherical gets number 1, place 0, and nothing is altered
 
--- is the joint's case the kind called?
-abbrev pub isSpherical : JointUnion → Bool
-isSpherical (Revolute j) = false
-isSpherical (Spherical j) = true
-isSpherical (Weld j) = false
-isSpherical Other = false
-
-unfoldable pub prepareSphericalUnion : JointUnion → JointSim → Float → Bool → BodyRecord → BodyRecord → Prepared
-prepareSphericalUnion (Revolute j) sim h enableWarmStarting bodyA bodyB = notPrepared sim
-prepareSphericalUnion (Spherical j) sim h enableWarmStarting bodyA bodyB =
-    let r = prepareSpherical (sim .base) j h enableWarmStarting bodyA bodyB in
-    prepared (jointSim (r .base) (Spherical (r .joint)))
-prepareSphericalUnion (Weld j) sim h enableWarmStarting bodyA bodyB = notPrepared sim
-prepareSphericalUnion Other sim h enableWarmStarting bodyA bodyB = notPrepared sim
-
 -- of the context the sub-step and the switch of warm starting
 unfoldable pub prepareSphericalJoint : JointSim → StepContext → BodyRecord → BodyRecord → Prepared
 prepareSphericalJoint sim context bodyA bodyB =
-    prepareSphericalUnion (sim .«union_») sim (context .h) (context .«enable_warm_starting») bodyA bodyB
-
-unfoldable pub warmStartSphericalUnion : JointUnion → JointSim → BodyState → BodyState → WarmStarted
-warmStartSphericalUnion (Revolute j) sim stateA stateB = notWarmStarted sim stateA stateB
-warmStartSphericalUnion (Spherical j) sim stateA stateB = warmStarted sim (warmStartSpherical (sim .base) j stateA stateB)
-warmStartSphericalUnion (Weld j) sim stateA stateB = notWarmStarted sim stateA stateB
-warmStartSphericalUnion Other sim stateA stateB = notWarmStarted sim stateA stateB
+    Option·elim (asSpherical (sim .«union_»)) (notPrepared sim) λ j.
+    let r = prepareSpherical (sim .base) j (context .h) (context .«enable_warm_starting») bodyA bodyB in
+    prepared (jointSim (r .base) (Spherical (r .joint)))
 
 unfoldable pub warmStartSphericalJoint : JointSim → BodyState → BodyState → WarmStarted
-warmStartSphericalJoint sim stateA stateB = warmStartSphericalUnion (sim .«union_») sim stateA stateB
-
-unfoldable pub solveSphericalUnion : JointUnion → JointSim → Float → Float → BodyState → BodyState → Bool → Solved
-solveSphericalUnion (Revolute j) sim h invH stateA stateB useBias = notSolved sim stateA stateB
-solveSphericalUnion (Spherical j) sim h invH stateA stateB useBias =
-    let r = solveSpherical (sim .base) j h invH stateA stateB useBias in
-    solved (jointSim (sim .base) (Spherical (r .joint))) (r .velocities)
-solveSphericalUnion (Weld j) sim h invH stateA stateB useBias = notSolved sim stateA stateB
-solveSphericalUnion Other sim h invH stateA stateB useBias = notSolved sim stateA stateB
+warmStartSphericalJoint sim stateA stateB =
+    Option·elim (asSpherical (sim .«union_»)) (notWarmStarted sim stateA stateB) λ j. warmStarted sim (warmStartSpherical (sim .base) j stateA stateB)
 
 -- of the context the sub-step and its inverse
 unfoldable pub solveSphericalJoint : JointSim → StepContext → BodyState → BodyState → Bool → Solved
 solveSphericalJoint sim context stateA stateB useBias =
-    solveSphericalUnion (sim .«union_») sim (context .h) (context .«inv_h») stateA stateB useBias
+    Option·elim (asSpherical (sim .«union_»)) (notSolved sim stateA stateB) λ j.
+    let r = solveSpherical (sim .base) j (context .h) (context .«inv_h») stateA stateB useBias in
+    solved (jointSim (sim .base) (Spherical (r .joint))) (r .velocities)

@@ -106,8 +106,8 @@ pub fn prepare_rotation_mass(fixed_rotation: bool, inv_inertia_sum: Matrix3) -> 
 }
 
 // The joint with its impulses, which are cleared if warm starting is off.
-pub fn prepare_impulses(mut joint: SphericalJoint, enable_warm_starting: bool) -> SphericalJoint
-    ensures { λ r. ⌜ r ≡ D.prepareImpulses joint «enable_warm_starting» ⌝ }
+pub fn keep_impulses(mut joint: SphericalJoint, enable_warm_starting: bool) -> SphericalJoint
+    ensures { λ r. ⌜ r ≡ D.keepImpulses joint «enable_warm_starting» ⌝ }
 {
     if !enable_warm_starting {
         let zero = VEC3_ZERO;
@@ -153,6 +153,6 @@ pub fn prepare_spherical(
     joint.twist_mass = twist.mass;
     joint.rotation_mass = prepare_rotation_mass(base.fixed_rotation, sum);
     joint.spring_softness = make_soft(joint.hertz, joint.damping_ratio, h);
-    joint = prepare_impulses(joint, enable_warm_starting);
+    joint = keep_impulses(joint, enable_warm_starting);
     SphericalPrepared { base, joint }
 }

@@ -1,8 +1,7 @@
 -- What holds of the weld joint's stages, for all inputs. Assumes nothing.
-use mathlib.Core.Path.{_≡_, refl, ap, subst}
-use mathlib.Core.Bool.{Bool, true, false, cond}
+use mathlib.Core.Path.{_≡_, refl}
+use mathlib.Core.Bool.{Bool, false, cond}
 use Prim.Native.Nat.{ℕ}
-use lib.Dec.{T}
 use lib.IntN.{ℤ}
 use Rattle.math_functions.specs.declared.types.Vec3.{Vec3}
 use Rattle.solver.specs.declared.StepContext.{StepContext}
@@ -12,11 +11,14 @@ use Rattle.records.specs.declared.body.BodyRecord.{BodyRecord}
 use Rattle.records.specs.declared.joint.WeldJoint.{WeldJoint}
 use Rattle.records.specs.declared.joint.JointBase.{JointBase}
 use Rattle.records.specs.declared.joint.JointSim.{JointSim}
-use Rattle.records.specs.declared.joint.JointUnion.{JointUnion}
-use Rattle.records.specs.declared.joint.JointUnion.the-variants.{Revolute, Spherical, Weld, Other}
+use Rattle.records.specs.Joint.{asWeld, isWeld}
+use Rattle.constraint.specs.declared.answer.Prepared.{Prepared}
+use Rattle.constraint.specs.declared.answer.WarmStarted.{WarmStarted}
+use Rattle.constraint.specs.declared.answer.Solved.{Solved}
 use Rattle.constraint.specs.Velocity.{velocitiesOf}
 use Rattle.constraint.specs.Answer.{notPrepared, notWarmStarted, notSolved}
-use Rattle.weld.specs.Weld.{withImpulses, weldSolved, isWeld, warmStartWeld, solveAngular, solvePoint, solveWeld, prepareWeldUnion, prepareWeldJoint, warmStartWeldUnion, warmStartWeldJoint, solveWeldUnion, solveWeldJoint}
+use Rattle.constraint.specs.Facts.{kept, numbered, refused, case-kept}
+use Rattle.weld.specs.Weld.{withImpulses, weldSolved, warmStartWeld, solveAngular, solvePoint, solveWeld, prepareWeldJoint, warmStartWeldJoint, solveWeldJoint}
 
 -- the joint with other indices
 abbrev pub withIndices : WeldJoint → ℤ → ℤ → WeldJoint
@@ -84,118 +86,55 @@ pub solve-context : (sim : JointSim) (c d : StepContext) (a b : BodyState) (useB
 unfolding solveWeldJoint
 solve-context sim c d a b useBias = refl
 
-true-is-not-false : true ≡ false → ⊥
-true-is-not-false e = subst T e tt
-
 module _ (sim : JointSim) (c : StepContext) (bodyA bodyB : BodyRecord) where
   -- the number is 1 exactly where the case is another
   pub prepare-number : prepareWeldJoint sim c bodyA bodyB .number ≡ cond (isWeld (sim .«union_»)) 0 1
-  unfolding prepareWeldJoint prepareWeldUnion
-  prepare-number = go (sim .«union_»)
-    where
-      go : (u : JointUnion) → prepareWeldUnion u sim (c .h) (c .«enable_warm_starting») bodyA bodyB .number ≡ cond (isWeld u) 0 1
-      go (Weld j) = refl
-      go (Revolute j) = refl
-      go (Spherical j) = refl
-      go Other = refl
+  unfolding prepareWeldJoint
+  prepare-number = numbered (λ (r : Prepared). r .number) (asWeld (sim .«union_»)) _ _ refl (λ k. refl)
 
   -- and then the joint is as it was
   pub prepare-refused : isWeld (sim .«union_») ≡ false → prepareWeldJoint sim c bodyA bodyB ≡ notPrepared sim
-  unfolding prepareWeldJoint prepareWeldUnion
-  prepare-refused = go (sim .«union_»)
-    where
-      go : (u : JointUnion) → isWeld u ≡ false → prepareWeldUnion u sim (c .h) (c .«enable_warm_starting») bodyA bodyB ≡ notPrepared sim
-      go (Weld j) e = absurd (true-is-not-false e)
-      go (Revolute j) e = refl
-      go (Spherical j) e = refl
-      go Other e = refl
+  unfolding prepareWeldJoint
+  prepare-refused = refused (asWeld (sim .«union_»)) _ _
 
   -- a weld joint stays one, and no other becomes one (another case stays itself, by `prepare-refused`)
   pub prepare-case : isWeld (prepareWeldJoint sim c bodyA bodyB .joint .«union_») ≡ isWeld (sim .«union_»)
-  unfolding prepareWeldJoint prepareWeldUnion
-  prepare-case = go (sim .«union_») refl
-    where
-      go : (u : JointUnion) → sim .«union_» ≡ u → isWeld (prepareWeldUnion u sim (c .h) (c .«enable_warm_starting») bodyA bodyB .joint .«union_») ≡ isWeld u
-      go (Weld j) e = refl
-      go (Revolute j) e = ap isWeld e
-      go (Spherical j) e = ap isWeld e
-      go Other e = ap isWeld e
+  unfolding prepareWeldJoint
+  prepare-case = case-kept (λ (r : Prepared). r .joint .«union_») asWeld (sim .«union_») _ _ refl (λ k. refl)
 
 module _ (sim : JointSim) (a b : BodyState) where
   -- a warm start changes no field of the joint, so base and case are as they were
   pub warm-start-joint : warmStartWeldJoint sim a b .joint ≡ sim
-  unfolding warmStartWeldJoint warmStartWeldUnion
-  warm-start-joint = go (sim .«union_»)
-    where
-      go : (u : JointUnion) → warmStartWeldUnion u sim a b .joint ≡ sim
-      go (Weld j) = refl
-      go (Revolute j) = refl
-      go (Spherical j) = refl
-      go Other = refl
+  unfolding warmStartWeldJoint
+  warm-start-joint = kept (λ (r : WarmStarted). r .joint) sim (asWeld (sim .«union_»)) _ _ refl (λ k. refl)
 
   -- the number is 1 exactly where the case is another
   pub warm-start-number : warmStartWeldJoint sim a b .number ≡ cond (isWeld (sim .«union_»)) 0 1
-  unfolding warmStartWeldJoint warmStartWeldUnion
-  warm-start-number = go (sim .«union_»)
-    where
-      go : (u : JointUnion) → warmStartWeldUnion u sim a b .number ≡ cond (isWeld u) 0 1
-      go (Weld j) = refl
-      go (Revolute j) = refl
-      go (Spherical j) = refl
-      go Other = refl
+  unfolding warmStartWeldJoint
+  warm-start-number = numbered (λ (r : WarmStarted). r .number) (asWeld (sim .«union_»)) _ _ refl (λ k. refl)
 
   -- and then joint and velocities are as they were
   pub warm-start-refused : isWeld (sim .«union_») ≡ false → warmStartWeldJoint sim a b ≡ notWarmStarted sim a b
-  unfolding warmStartWeldJoint warmStartWeldUnion
-  warm-start-refused = go (sim .«union_»)
-    where
-      go : (u : JointUnion) → isWeld u ≡ false → warmStartWeldUnion u sim a b ≡ notWarmStarted sim a b
-      go (Weld j) e = absurd (true-is-not-false e)
-      go (Revolute j) e = refl
-      go (Spherical j) e = refl
-      go Other e = refl
+  unfolding warmStartWeldJoint
+  warm-start-refused = refused (asWeld (sim .«union_»)) _ _
 
 module _ (sim : JointSim) (c : StepContext) (a b : BodyState) (useBias : Bool) where
   -- a solve changes nothing of the joint but the weld record
   pub solve-base : solveWeldJoint sim c a b useBias .joint .base ≡ sim .base
-  unfolding solveWeldJoint solveWeldUnion
-  solve-base = go (sim .«union_»)
-    where
-      go : (u : JointUnion) → solveWeldUnion u sim a b useBias .joint .base ≡ sim .base
-      go (Weld j) = refl
-      go (Revolute j) = refl
-      go (Spherical j) = refl
-      go Other = refl
+  unfolding solveWeldJoint
+  solve-base = kept (λ (r : Solved). r .joint .base) (sim .base) (asWeld (sim .«union_»)) _ _ refl (λ k. refl)
 
   -- a weld joint stays one, and no other becomes one (another case stays itself, by `solve-refused`)
   pub solve-case : isWeld (solveWeldJoint sim c a b useBias .joint .«union_») ≡ isWeld (sim .«union_»)
-  unfolding solveWeldJoint solveWeldUnion
-  solve-case = go (sim .«union_») refl
-    where
-      go : (u : JointUnion) → sim .«union_» ≡ u → isWeld (solveWeldUnion u sim a b useBias .joint .«union_») ≡ isWeld u
-      go (Weld j) e = refl
-      go (Revolute j) e = ap isWeld e
-      go (Spherical j) e = ap isWeld e
-      go Other e = ap isWeld e
+  unfolding solveWeldJoint
+  solve-case = case-kept (λ (r : Solved). r .joint .«union_») asWeld (sim .«union_») _ _ refl (λ k. refl)
 
   -- the number is 1 exactly where the case is another
   pub solve-number : solveWeldJoint sim c a b useBias .number ≡ cond (isWeld (sim .«union_»)) 0 1
-  unfolding solveWeldJoint solveWeldUnion
-  solve-number = go (sim .«union_»)
-    where
-      go : (u : JointUnion) → solveWeldUnion u sim a b useBias .number ≡ cond (isWeld u) 0 1
-      go (Weld j) = refl
-      go (Revolute j) = refl
-      go (Spherical j) = refl
-      go Other = refl
+  unfolding solveWeldJoint
+  solve-number = numbered (λ (r : Solved). r .number) (asWeld (sim .«union_»)) _ _ refl (λ k. refl)
 
   -- and then joint and velocities are as they were
   pub solve-refused : isWeld (sim .«union_») ≡ false → solveWeldJoint sim c a b useBias ≡ notSolved sim a b
-  unfolding solveWeldJoint solveWeldUnion
-  solve-refused = go (sim .«union_»)
-    where
-      go : (u : JointUnion) → isWeld u ≡ false → solveWeldUnion u sim a b useBias ≡ notSolved sim a b
-      go (Weld j) e = absurd (true-is-not-false e)
-      go (Revolute j) e = refl
-      go (Spherical j) e = refl
-      go Other e = refl
+  unfolding solveWeldJoint
+  solve-refused = refused (asWeld (sim .«union_»)) _ _

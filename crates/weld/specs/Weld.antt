@@ -1,5 +1,6 @@
--- weld.rs: the weld joint's rows and stages. Definitions only. Assumes nothing.
-use mathlib.Core.Bool.{Bool, true, false, not, cond, _||_}
+-- joint/weld.rs: the weld joint's rows and stages. Definitions only. Assumes nothing.
+use mathlib.Core.Bool.{Bool, not, cond, _||_}
+use mathlib.Core.Option.{Option·elim}
 use lib.Ieee.{Float}
 use lib.IntN.{ℤ}
 use Rattle.math_functions.specs.declared.types.Vec3.{Vec3}
@@ -19,8 +20,8 @@ use Rattle.records.specs.declared.body.BodyRecord.{BodyRecord}
 use Rattle.records.specs.declared.joint.WeldJoint.{WeldJoint}
 use Rattle.records.specs.declared.joint.JointBase.{JointBase}
 use Rattle.records.specs.declared.joint.JointSim.{JointSim}
-use Rattle.records.specs.declared.joint.JointUnion.{JointUnion}
-use Rattle.records.specs.declared.joint.JointUnion.the-variants.{Revolute, Spherical, Weld, Other}
+use Rattle.records.specs.declared.joint.JointUnion.the-variants.{Weld}
+use Rattle.records.specs.Joint.{asWeld}
 use Rattle.constraint.specs.declared.velocity.Velocities.{Velocities}
 use Rattle.constraint.specs.declared.velocity.InvMasses.{InvMasses}
 use Rattle.constraint.specs.declared.soft.SoftBias3.{SoftBias3}
@@ -166,42 +167,22 @@ solveWeld base j a b useBias =
     let point = solvePoint j a b useBias m (angular .velocities) in
     weldSolved (withImpulses j (point .impulse) (angular .impulse)) (point .velocities)
 
--- the case that the stages take; any other is document 01's number 1
-abbrev pub isWeld : JointUnion → Bool
-isWeld (Weld j) = true
-isWeld (Revolute j) = false
-isWeld (Spherical j) = false
-isWeld Other = false
-
-unfoldable pub prepareWeldUnion : JointUnion → JointSim → Float → Bool → BodyRecord → BodyRecord → Prepared
-prepareWeldUnion (Weld j) sim h enableWarmStarting bodyA bodyB =
-    let p = prepareWeld (sim .base) j h enableWarmStarting bodyA bodyB in
-    prepared (jointSim (p .base) (Weld (p .joint)))
-prepareWeldUnion (Revolute j) sim h enableWarmStarting bodyA bodyB = notPrepared sim
-prepareWeldUnion (Spherical j) sim h enableWarmStarting bodyA bodyB = notPrepared sim
-prepareWeldUnion Other sim h enableWarmStarting bodyA bodyB = notPrepared sim
+-- ---- the stages over a joint of any kind: one whose case is not Weld gets number 1, place 0, and nothing is altered
 
 -- of the context h and enable_warm_starting
 unfoldable pub prepareWeldJoint : JointSim → StepContext → BodyRecord → BodyRecord → Prepared
-prepareWeldJoint sim context bodyA bodyB = prepareWeldUnion (sim .«union_») sim (context .h) (context .«enable_warm_starting») bodyA bodyB
-
-unfoldable pub warmStartWeldUnion : JointUnion → JointSim → BodyState → BodyState → WarmStarted
-warmStartWeldUnion (Weld j) sim a b = warmStarted sim (warmStartWeld (sim .base) j a b)
-warmStartWeldUnion (Revolute j) sim a b = notWarmStarted sim a b
-warmStartWeldUnion (Spherical j) sim a b = notWarmStarted sim a b
-warmStartWeldUnion Other sim a b = notWarmStarted sim a b
+prepareWeldJoint sim context bodyA bodyB =
+    Option·elim (asWeld (sim .«union_»)) (notPrepared sim) λ j.
+    let p = prepareWeld (sim .base) j (context .h) (context .«enable_warm_starting») bodyA bodyB in
+    prepared (jointSim (p .base) (Weld (p .joint)))
 
 unfoldable pub warmStartWeldJoint : JointSim → BodyState → BodyState → WarmStarted
-warmStartWeldJoint sim a b = warmStartWeldUnion (sim .«union_») sim a b
-
-unfoldable pub solveWeldUnion : JointUnion → JointSim → BodyState → BodyState → Bool → Solved
-solveWeldUnion (Weld j) sim a b useBias =
-    let s = solveWeld (sim .base) j a b useBias in
-    solved (jointSim (sim .base) (Weld (s .joint))) (s .velocities)
-solveWeldUnion (Revolute j) sim a b useBias = notSolved sim a b
-solveWeldUnion (Spherical j) sim a b useBias = notSolved sim a b
-solveWeldUnion Other sim a b useBias = notSolved sim a b
+warmStartWeldJoint sim a b =
+    Option·elim (asWeld (sim .«union_»)) (notWarmStarted sim a b) λ j. warmStarted sim (warmStartWeld (sim .base) j a b)
 
 -- of the context nothing
 unfoldable pub solveWeldJoint : JointSim → StepContext → BodyState → BodyState → Bool → Solved
-solveWeldJoint sim context a b useBias = solveWeldUnion (sim .«union_») sim a b useBias
+solveWeldJoint sim context a b useBias =
+    Option·elim (asWeld (sim .«union_»)) (notSolved sim a b) λ j.
+    let s = solveWeld (sim .base) j a b useBias in
+    solved (jointSim (sim .base) (Weld (s .joint))) (s .velocities)

@@ -1,8 +1,9 @@
 -- `prepare_revolute_joint` equals its definition: a joint of another case by the fact that it is refused. Assumes nothing.
+use mathlib.Core.Option.{Option·elim}
 use borrow.Author.Needs.{needs}
-use Rattle.revolute.specs.Revolute.{prepareRevoluteJoint, prepareRevoluteUnion}
+use Rattle.records.proofs.Cases.{not-revolute}
+use Rattle.revolute.specs.Revolute.{prepareRevoluteJoint}
 use Rattle.revolute.specs.Facts.{prepare-refused}
-use Rattle.revolute.proofs.Cases.{not-revolute}
 use Rattle.revolute.proofs.prepare_revolute_joint.Statement.{statement}
 use Rattle.revolute.proofs.prepare_revolute_joint.Tie as tie
 
@@ -12,7 +13,7 @@ returns c =
     rw (prepare-refused (args .joint) (args .context) (args .body-a) (args .body-b) (not-revolute (args .joint .«union_») (c .match .keys2)))
 
 returns-2 : tie.Need-returns-2
-unfolding prepareRevoluteJoint prepareRevoluteUnion
+unfolding prepareRevoluteJoint Option·elim
 returns-2 c = rw (c .before .before .before .u .given .1, ← (c .before .prepare-revolute .ensures), ← (c .revolute-sim .ensures))
 
 pub prepare-revolute-joint-spec : {M : Type 1} → statement M

@@ -1,8 +1,9 @@
 -- `solve_revolute_joint` equals its definition: a joint of another case by the fact that it is refused. Assumes nothing.
+use mathlib.Core.Option.{Option·elim}
 use borrow.Author.Needs.{needs}
-use Rattle.revolute.specs.Revolute.{solveRevoluteJoint, solveRevoluteUnion}
+use Rattle.records.proofs.Cases.{not-revolute}
+use Rattle.revolute.specs.Revolute.{solveRevoluteJoint}
 use Rattle.revolute.specs.Facts.{solve-refused}
-use Rattle.revolute.proofs.Cases.{not-revolute}
 use Rattle.revolute.proofs.solve_revolute_joint.Statement.{statement}
 use Rattle.revolute.proofs.solve_revolute_joint.Tie as tie
 
@@ -12,7 +13,7 @@ returns c =
     rw (solve-refused (args .joint) (args .context) (args .state-a) (args .state-b) (args .use-bias) (not-revolute (args .joint .«union_») (c .before .match .keys2)), ← (c .velocities-of .ensures))
 
 returns-2 : tie.Need-returns-2
-unfolding solveRevoluteJoint solveRevoluteUnion
+unfolding solveRevoluteJoint Option·elim
 returns-2 c = rw (c .before .before .before .before .u .given .1, ← (c .before .before .solve-revolute .ensures), ← (c .revolute-sim .ensures))
 
 pub solve-revolute-joint-spec : {M : Type 1} → statement M

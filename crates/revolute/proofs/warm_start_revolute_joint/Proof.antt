@@ -1,8 +1,9 @@
 -- `warm_start_revolute_joint` equals its definition: a joint of another case by the fact that it is refused. Assumes nothing.
+use mathlib.Core.Option.{Option·elim}
 use borrow.Author.Needs.{needs}
-use Rattle.revolute.specs.Revolute.{warmStartRevoluteJoint, warmStartRevoluteUnion}
+use Rattle.records.proofs.Cases.{not-revolute}
+use Rattle.revolute.specs.Revolute.{warmStartRevoluteJoint}
 use Rattle.revolute.specs.Facts.{warm-start-refused}
-use Rattle.revolute.proofs.Cases.{not-revolute}
 use Rattle.revolute.proofs.warm_start_revolute_joint.Statement.{statement}
 use Rattle.revolute.proofs.warm_start_revolute_joint.Tie as tie
 
@@ -12,7 +13,7 @@ returns c =
     rw (warm-start-refused (args .joint) (args .state-a) (args .state-b) (not-revolute (args .joint .«union_») (c .before .match .keys2)), ← (c .velocities-of .ensures))
 
 returns-2 : tie.Need-returns-2
-unfolding warmStartRevoluteJoint warmStartRevoluteUnion
+unfolding warmStartRevoluteJoint Option·elim
 returns-2 c = rw (c .before .before .u .given .1, ← (c .warm-start-revolute .ensures))
 
 pub warm-start-revolute-joint-spec : {M : Type 1} → statement M

@@ -1,8 +1,9 @@
 -- `prepare_spherical_joint` equals its definition. Assumes nothing.
+use mathlib.Core.Option.{Option·elim}
 use borrow.Author.Needs.{needs}
-use Rattle.spherical.specs.Spherical.{prepareSphericalUnion, prepareSphericalJoint}
+use Rattle.records.proofs.Cases.{not-spherical}
+use Rattle.spherical.specs.Spherical.{prepareSphericalJoint}
 use Rattle.spherical.specs.Facts.{prepare-refused}
-use Rattle.spherical.proofs.Cases.{not-spherical}
 use Rattle.spherical.proofs.prepare_spherical_joint.Statement.{statement}
 use Rattle.spherical.proofs.prepare_spherical_joint.Tie as tie
 
@@ -12,7 +13,7 @@ returns c =
     rw (prepare-refused (a .joint) (a .context) (a .body-a) (a .body-b) (not-spherical (a .joint .«union_») (c .match .keys2)))
 
 returns-2 : tie.Need-returns-2
-unfolding prepareSphericalJoint prepareSphericalUnion
+unfolding prepareSphericalJoint Option·elim
 returns-2 c = rw (c .before .before .before .u .given .1, ← (c .before .prepare-spherical .ensures), ← (c .spherical-sim .ensures))
 
 pub prepare-spherical-joint-spec : {M : Type 1} → statement M

@@ -1,8 +1,9 @@
 -- `solve_spherical_joint` equals its definition. Assumes nothing.
+use mathlib.Core.Option.{Option·elim}
 use borrow.Author.Needs.{needs}
-use Rattle.spherical.specs.Spherical.{solveSphericalUnion, solveSphericalJoint}
+use Rattle.records.proofs.Cases.{not-spherical}
+use Rattle.spherical.specs.Spherical.{solveSphericalJoint}
 use Rattle.spherical.specs.Facts.{solve-refused}
-use Rattle.spherical.proofs.Cases.{not-spherical}
 use Rattle.spherical.proofs.solve_spherical_joint.Statement.{statement}
 use Rattle.spherical.proofs.solve_spherical_joint.Tie as tie
 
@@ -12,7 +13,7 @@ returns c =
     rw (solve-refused (a .joint) (a .context) (a .state-a) (a .state-b) (a .use-bias) (not-spherical (a .joint .«union_») (c .before .match .keys2)), ← (c .velocities-of .ensures))
 
 returns-2 : tie.Need-returns-2
-unfolding solveSphericalJoint solveSphericalUnion
+unfolding solveSphericalJoint Option·elim
 returns-2 c = rw (c .before .before .before .before .u .given .1, ← (c .before .before .solve-spherical .ensures), ← (c .spherical-sim .ensures))
 
 pub solve-spherical-joint-spec : {M : Type 1} → statement M

@@ -1,8 +1,9 @@
 -- `warm_start_spherical_joint` equals its definition. Assumes nothing.
+use mathlib.Core.Option.{Option·elim}
 use borrow.Author.Needs.{needs}
-use Rattle.spherical.specs.Spherical.{warmStartSphericalUnion, warmStartSphericalJoint}
+use Rattle.records.proofs.Cases.{not-spherical}
+use Rattle.spherical.specs.Spherical.{warmStartSphericalJoint}
 use Rattle.spherical.specs.Facts.{warm-start-refused}
-use Rattle.spherical.proofs.Cases.{not-spherical}
 use Rattle.spherical.proofs.warm_start_spherical_joint.Statement.{statement}
 use Rattle.spherical.proofs.warm_start_spherical_joint.Tie as tie
 
@@ -12,7 +13,7 @@ returns c =
     rw (warm-start-refused (a .joint) (a .state-a) (a .state-b) (not-spherical (a .joint .«union_») (c .before .match .keys2)), ← (c .velocities-of .ensures))
 
 returns-2 : tie.Need-returns-2
-unfolding warmStartSphericalJoint warmStartSphericalUnion
+unfolding warmStartSphericalJoint Option·elim
 returns-2 c = rw (c .before .before .u .given .1, ← (c .warm-start-spherical .ensures))
 
 pub warm-start-spherical-joint-spec : {M : Type 1} → statement M

@@ -1,7 +1,8 @@
+use mathlib.Core.Option.{Option·elim}
 use borrow.Author.Needs.{needs}
-use Rattle.weld.specs.Weld.{prepareWeldJoint, prepareWeldUnion}
+use Rattle.records.proofs.Cases.{not-weld}
+use Rattle.weld.specs.Weld.{prepareWeldJoint}
 use Rattle.weld.specs.Facts.{prepare-refused}
-use Rattle.weld.proofs.Cases.{not-weld}
 use Rattle.weld.proofs.prepare_weld_joint.Statement.{statement}
 use Rattle.weld.proofs.prepare_weld_joint.Tie as tie
 
@@ -11,7 +12,7 @@ returns c =
     rw (prepare-refused (args .joint) (args .context) (args .body-a) (args .body-b) (not-weld (args .joint .«union_») (c .match .keys2)))
 
 returns-2 : tie.Need-returns-2
-unfolding prepareWeldJoint prepareWeldUnion
+unfolding prepareWeldJoint Option·elim
 returns-2 c = rw (c .before .before .before .u .given .1, ← (c .before .prepare-weld .ensures), ← (c .weld-sim .ensures))
 
 pub prepare-weld-joint-spec : {M : Type 1} → statement M

@@ -1,7 +1,8 @@
+use mathlib.Core.Option.{Option·elim}
 use borrow.Author.Needs.{needs}
-use Rattle.weld.specs.Weld.{solveWeldJoint, solveWeldUnion}
+use Rattle.records.proofs.Cases.{not-weld}
+use Rattle.weld.specs.Weld.{solveWeldJoint}
 use Rattle.weld.specs.Facts.{solve-refused}
-use Rattle.weld.proofs.Cases.{not-weld}
 use Rattle.weld.proofs.solve_weld_joint.Statement.{statement}
 use Rattle.weld.proofs.solve_weld_joint.Tie as tie
 
@@ -11,7 +12,7 @@ returns c =
     rw (solve-refused (args .joint) (args .context) (args .state-a) (args .state-b) (args .use-bias) (not-weld (args .joint .«union_») (c .before .match .keys2)), ← (c .velocities-of .ensures))
 
 returns-2 : tie.Need-returns-2
-unfolding solveWeldJoint solveWeldUnion
+unfolding solveWeldJoint Option·elim
 returns-2 c = rw (c .before .before .before .before .u .given .1, ← (c .before .before .solve-weld .ensures), ← (c .weld-sim .ensures))
 
 pub solve-weld-joint-spec : {M : Type 1} → statement M

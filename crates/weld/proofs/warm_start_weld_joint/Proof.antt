@@ -1,7 +1,8 @@
+use mathlib.Core.Option.{Option·elim}
 use borrow.Author.Needs.{needs}
-use Rattle.weld.specs.Weld.{warmStartWeldJoint, warmStartWeldUnion}
+use Rattle.records.proofs.Cases.{not-weld}
+use Rattle.weld.specs.Weld.{warmStartWeldJoint}
 use Rattle.weld.specs.Facts.{warm-start-refused}
-use Rattle.weld.proofs.Cases.{not-weld}
 use Rattle.weld.proofs.warm_start_weld_joint.Statement.{statement}
 use Rattle.weld.proofs.warm_start_weld_joint.Tie as tie
 
@@ -11,7 +12,7 @@ returns c =
     rw (warm-start-refused (args .joint) (args .state-a) (args .state-b) (not-weld (args .joint .«union_») (c .before .match .keys2)), ← (c .velocities-of .ensures))
 
 returns-2 : tie.Need-returns-2
-unfolding warmStartWeldJoint warmStartWeldUnion
+unfolding warmStartWeldJoint Option·elim
 returns-2 c = rw (c .before .before .u .given .1, ← (c .warm-start-weld .ensures))
 
 pub warm-start-weld-joint-spec : {M : Type 1} → statement M
