@@ -1,2 +1,3 @@
 -- What the functions' proofs cite. Assumes nothing.
+mod Ahead
 mod One

@@ -8,9 +8,9 @@ use constraint::angular::Row3;
 use constraint::angular::angular_row;
 use constraint::angular::upper_limit_row;
 use constraint::point::add_mass;
-use constraint::point::point_bias;
 use constraint::point::point_cdot;
 use constraint::rotation::RelativeRotation;
+use constraint::soft::SoftBias3;
 use constraint::soft::limit_bias;
 use constraint::soft::soft_bias3;
 use constraint::soft::soft_impulse3;
@@ -26,6 +26,7 @@ use math_functions::matrix::skew;
 use math_functions::matrix::solve3;
 use math_functions::quat::delta_quat_to_rotation;
 use math_functions::quat::get_swing_angle;
+use math_functions::quat::get_twist_angle;
 use math_functions::quat::rotate_vector;
 use math_functions::types::Matrix3;
 use math_functions::types::Quat;
@@ -110,10 +111,30 @@ pub fn motor_row(
     }
 }
 
+// The angles of the twist limits and of the cone, where their rows are worked. They wait for no
+// velocity, so a solve takes each a row ahead.
+pub fn twist_angle_if(worked: bool, rel_q: Quat) -> f32
+    ensures { λ r. ⌜ r ≡ Steps.twistAngleIf worked «rel_q» ⌝ }
+{
+    if !worked {
+        return 0.0;
+    }
+    get_twist_angle(rel_q)
+}
+
+pub fn swing_angle_if(worked: bool, rel_q: Quat) -> f32
+    ensures { λ r. ⌜ r ≡ Steps.swingAngleIf worked «rel_q» ⌝ }
+{
+    if !worked {
+        return 0.0;
+    }
+    get_swing_angle(rel_q)
+}
+
 // The cone: an upper limit of the swing angle.
 pub fn cone_row(
     worked: bool,
-    rel_q: Quat,
+    swing_angle: f32,
     cone_angle: f32,
     softness: Softness,
     inv_h: f32,
@@ -124,7 +145,7 @@ pub fn cone_row(
     m: InvMasses,
     v: Velocities,
 ) -> AxialRow
-    ensures { λ r. ⌜ r ≡ D.coneRow worked «rel_q» «cone_angle» softness «inv_h» «use_bias» mass axis «old_impulse» m v ⌝ }
+    ensures { λ r. ⌜ r ≡ Steps.coneRowAt worked «swing_angle» «cone_angle» softness «inv_h» «use_bias» mass axis «old_impulse» m v ⌝ }
 {
     if !worked {
         return AxialRow {
@@ -132,28 +153,23 @@ pub fn cone_row(
             velocities: v,
         };
     }
-    let c = cone_angle - get_swing_angle(rel_q);
+    let c = cone_angle - swing_angle;
     let s = limit_bias(c, softness, inv_h, use_bias);
     upper_limit_row(s, mass, axis, old_impulse, m, v)
 }
 
-// The point row holds the two anchors together.
+// The point row, with its bias s, holds the two anchors together.
 pub fn point_row(
-    use_bias: bool,
-    softness: Softness,
+    s: SoftBias3,
     r_a: Vec3,
     r_b: Vec3,
-    dc_a: Vec3,
-    dc_b: Vec3,
-    delta_center: Vec3,
     old_impulse: Vec3,
     m: InvMasses,
     v: Velocities,
 ) -> Row3
-    ensures { λ r. ⌜ r ≡ D.pointRow «use_bias» softness «r_a» «r_b» «dc_a» «dc_b» «delta_center» «old_impulse» m v ⌝ }
+    ensures { λ r. ⌜ r ≡ Steps.pointRowAt s «r_a» «r_b» «old_impulse» m v ⌝ }
 {
     let cdot = point_cdot(r_a, r_b, v);
-    let s = point_bias(use_bias, softness, r_a, r_b, dc_a, dc_b, delta_center);
     let s_a = skew(r_a);
     let s_b = skew(r_b);
     let k_a = mul_mm(s_a, mul_mm(m.i_a, s_a));

@@ -1,12 +1,16 @@
 // The warm start and the solve of a spherical joint.
 ghost use mathlib.Core.Path.{_≡_};
 ghost use Rattle.constraint.specs.Angular as Angular;
-ghost use Rattle.math_functions.specs.Quat as Quats;
+ghost use Rattle.constraint.specs.Point as Point;
+ghost use Rattle.constraint.specs.Rotation as Rotation;
 ghost use Rattle.spherical.specs.Spherical as D;
+ghost use Rattle.spherical.specs.Steps as Steps;
 use crate::rows::cone_row;
 use crate::rows::motor_row;
 use crate::rows::point_row;
 use crate::rows::spring_row;
+use crate::rows::swing_angle_if;
+use crate::rows::twist_angle_if;
 use constraint::angular::AxialRow;
 use constraint::angular::LimitRows;
 use constraint::angular::Row3;
@@ -14,8 +18,10 @@ use constraint::angular::is_worked;
 use constraint::angular::limit_rows;
 use constraint::angular::lower_limit_sum;
 use constraint::angular::upper_limit_row;
+use constraint::point::point_bias;
 use constraint::rotation::RelativeRotation;
 use constraint::rotation::relative_rotation;
+use constraint::soft::SoftBias3;
 use constraint::soft::limit_bias;
 use constraint::velocity::InvMasses;
 use constraint::velocity::Velocities;
@@ -23,9 +29,8 @@ use constraint::velocity::apply_axial;
 use constraint::velocity::apply_warm;
 use constraint::velocity::inv_masses_of;
 use constraint::velocity::velocities_of;
-use math_functions::quat::get_twist_angle;
 use math_functions::quat::rotate_vector;
-use math_functions::types::Quat;
+use math_functions::types::Vec3;
 use math_functions::vector::add;
 use math_functions::vector::mul_add;
 use math_functions::vector::mul_sub;
@@ -64,6 +69,17 @@ pub fn warm_start_spherical(
 }
 
 // The rows of a joint: each of these hands a row its fields of the joint.
+
+fn solve_rotation(joint: SphericalJoint, state_a: BodyState, state_b: BodyState) -> RelativeRotation
+    ensures { λ r. ⌜ r ≡ Rotation.relativeRotation («state_a» .«delta_rotation») (joint .«frame_a» .q) («state_b» .«delta_rotation») (joint .«frame_b» .q) ⌝ }
+{
+    relative_rotation(
+        state_a.delta_rotation,
+        joint.frame_a.q,
+        state_b.delta_rotation,
+        joint.frame_b.q,
+    )
+}
 
 fn solve_spring(
     base: JointBase,
@@ -104,13 +120,13 @@ fn solve_motor(base: JointBase, joint: SphericalJoint, h: f32, m: InvMasses, v: 
 fn solve_twist(
     base: JointBase,
     joint: SphericalJoint,
-    rel_q: Quat,
+    angle: f32,
     inv_h: f32,
     use_bias: bool,
     m: InvMasses,
     v: Velocities,
 ) -> LimitRows
-    ensures { λ r. ⌜ r ≡ Angular.twistLimitRows (Angular.isWorked (joint .«enable_twist_limit») (base .«fixed_rotation»)) «rel_q» (joint .«lower_twist_angle») (joint .«upper_twist_angle») (base .«constraint_softness») «inv_h» «use_bias» (joint .«twist_mass») (joint .«twist_jacobian») (joint .«lower_twist_impulse») (joint .«upper_twist_impulse») m v ⌝ }
+    ensures { λ r. ⌜ r ≡ Steps.twistRowsAt (Angular.isWorked (joint .«enable_twist_limit») (base .«fixed_rotation»)) angle (joint .«lower_twist_angle») (joint .«upper_twist_angle») (base .«constraint_softness») «inv_h» «use_bias» (joint .«twist_mass») (joint .«twist_jacobian») (joint .«lower_twist_impulse») (joint .«upper_twist_impulse») m v ⌝ }
 {
     if !is_worked(joint.enable_twist_limit, base.fixed_rotation) {
         return LimitRows {
@@ -122,7 +138,6 @@ fn solve_twist(
     let softness = base.constraint_softness;
     let mass = joint.twist_mass;
     let axis = joint.twist_jacobian;
-    let angle = get_twist_angle(rel_q);
     let lower_bias = limit_bias(angle - joint.lower_twist_angle, softness, inv_h, use_bias);
     let old_impulse = joint.lower_twist_impulse;
     let sum = lower_limit_sum(lower_bias, mass, axis, old_impulse, v);
@@ -143,17 +158,17 @@ fn solve_twist(
 fn solve_cone(
     base: JointBase,
     joint: SphericalJoint,
-    rel_q: Quat,
+    swing_angle: f32,
     inv_h: f32,
     use_bias: bool,
     m: InvMasses,
     v: Velocities,
 ) -> AxialRow
-    ensures { λ r. ⌜ r ≡ D.coneRow (Angular.isWorked (joint .«enable_cone_limit») (base .«fixed_rotation»)) «rel_q» (joint .«cone_angle») (base .«constraint_softness») «inv_h» «use_bias» (joint .«swing_mass») (joint .«swing_axis») (joint .«swing_impulse») m v ⌝ }
+    ensures { λ r. ⌜ r ≡ Steps.coneRowAt (Angular.isWorked (joint .«enable_cone_limit») (base .«fixed_rotation»)) «swing_angle» (joint .«cone_angle») (base .«constraint_softness») «inv_h» «use_bias» (joint .«swing_mass») (joint .«swing_axis») (joint .«swing_impulse») m v ⌝ }
 {
     cone_row(
         is_worked(joint.enable_cone_limit, base.fixed_rotation),
-        rel_q,
+        swing_angle,
         joint.cone_angle,
         base.constraint_softness,
         inv_h,
@@ -166,31 +181,30 @@ fn solve_cone(
     )
 }
 
-fn solve_point(
+fn solve_bias(
     base: JointBase,
     joint: SphericalJoint,
+    r_a: Vec3,
+    r_b: Vec3,
     state_a: BodyState,
     state_b: BodyState,
     use_bias: bool,
-    m: InvMasses,
-    v: Velocities,
-) -> Row3
-    ensures { λ r. ⌜ r ≡ D.pointRow «use_bias» (base .«constraint_softness») (Quats.rotateVector («state_a» .«delta_rotation») (joint .«frame_a» .p)) (Quats.rotateVector («state_b» .«delta_rotation») (joint .«frame_b» .p)) («state_a» .«delta_position») («state_b» .«delta_position») (joint .«delta_center») (joint .«linear_impulse») m v ⌝ }
+) -> SoftBias3
+    ensures { λ r. ⌜ r ≡ Point.pointBias «use_bias» (base .«constraint_softness») «r_a» «r_b» («state_a» .«delta_position») («state_b» .«delta_position») (joint .«delta_center») ⌝ }
 {
-    point_row(
+    point_bias(
         use_bias,
         base.constraint_softness,
-        rotate_vector(state_a.delta_rotation, joint.frame_a.p),
-        rotate_vector(state_b.delta_rotation, joint.frame_b.p),
+        r_a,
+        r_b,
         state_a.delta_position,
         state_b.delta_position,
         joint.delta_center,
-        joint.linear_impulse,
-        m,
-        v,
     )
 }
 
+// What waits for no velocity (the angles, the anchors and the point row's bias) is computed a row
+// before the row that needs it, so that the processor has it to do while rows wait for each other.
 pub fn solve_spherical(
     base: JointBase,
     mut joint: SphericalJoint,
@@ -204,18 +218,18 @@ pub fn solve_spherical(
 {
     let m = inv_masses_of(base);
     let v = velocities_of(state_a, state_b);
-    let rotation = relative_rotation(
-        state_a.delta_rotation,
-        joint.frame_a.q,
-        state_b.delta_rotation,
-        joint.frame_b.q,
-    );
-    let rel_q = rotation.rel_q;
+    let rotation = solve_rotation(joint, state_a, state_b);
+    let fixed = base.fixed_rotation;
     let spring = solve_spring(base, joint, rotation, m, v);
+    let angle = twist_angle_if(is_worked(joint.enable_twist_limit, fixed), rotation.rel_q);
     let motor = solve_motor(base, joint, h, m, spring.velocities);
-    let twist = solve_twist(base, joint, rel_q, inv_h, use_bias, m, motor.velocities);
-    let cone = solve_cone(base, joint, rel_q, inv_h, use_bias, m, twist.velocities);
-    let point = solve_point(base, joint, state_a, state_b, use_bias, m, cone.velocities);
+    let swing = swing_angle_if(is_worked(joint.enable_cone_limit, fixed), rotation.rel_q);
+    let twist = solve_twist(base, joint, angle, inv_h, use_bias, m, motor.velocities);
+    let r_a = rotate_vector(state_a.delta_rotation, joint.frame_a.p);
+    let r_b = rotate_vector(state_b.delta_rotation, joint.frame_b.p);
+    let bias = solve_bias(base, joint, r_a, r_b, state_a, state_b, use_bias);
+    let cone = solve_cone(base, joint, swing, inv_h, use_bias, m, twist.velocities);
+    let point = point_row(bias, r_a, r_b, joint.linear_impulse, m, cone.velocities);
 
     let linear_impulse = point.impulse;
     let spring_impulse = spring.impulse;
