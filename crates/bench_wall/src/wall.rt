@@ -1,7 +1,15 @@
 // A wall of 32 gates: the first hangs on a post and each other on the one before it, all by the joint of
 // one model, or by those of the three models in turn.
+ghost use mathlib.Core.Path.{_≡_};
+ghost use Prim.Native.Nat.{_<_};
+ghost use lib.IntN.{pos};
+ghost use Rattle.models.specs.Model.{OfCase, Awake, Moves};
+ghost use Rattle.bench_wall.specs.Wall as D;
 use models::Model;
 use models::STEP;
+use models::body::fixed_body;
+use models::body::moving;
+use models::body::slab;
 use models::door::door;
 use models::hip::hip;
 use models::prepare;
@@ -12,71 +20,118 @@ use records::joint::JointSim;
 use scene::Scene;
 
 // 0 is the door's joint, 1 the hip's and 2 the strut's; any other kind takes them in turn.
-fn model_of(kind: u8, k: u8) -> Model {
-    let case = if kind < 3 { kind } else { k % 3 };
-    match case {
-        0 => door(k),
-        1 => hip(k, k),
-        _ => strut(k),
+fn gate_case(kind: u8, k: u8) -> u8
+    ensures { λ r. ⌜ (r < 3) × (r ≡ D.gateCase kind k) ⌝ }
+{
+    if kind < 3 {
+        return kind;
     }
+    k % 3
+}
+
+fn model_of(kind: u8, k: u8) -> Model
+    ensures { λ r. ⌜ OfCase (D.gateCase kind k) r ⌝ }
+{
+    let case = gate_case(kind, k);
+    if case == 0 {
+        return door(k);
+    }
+    if case == 1 {
+        return hip(k, k);
+    }
+    strut(k)
 }
 
 // Gate k's body; gate 0 stands at the origin.
-fn gate_body(k: u8) -> BodyRecord {
-    let leaf = door(k);
-    let mut body = leaf.body_b;
-    let x = k as f32;
-    body.center.x = x;
-    body
+fn gate_body(k: u8) -> BodyRecord
+    ensures { λ r. ⌜ Awake (pos k) r ⌝ }
+{
+    slab(k, k as f32)
 }
 
 // What gate k hangs on.
-pub fn body_before(k: u8) -> BodyRecord {
+pub fn body_before(k: u8) -> BodyRecord
+    ensures { λ r. ⌜ D.Before k r ⌝ }
+{
     if k == 0 {
-        let post = door(k);
-        let body = post.body_a;
-        return body;
+        return fixed_body();
     }
     gate_body(k - 1)
 }
 
 // Gate k before prepare.
-fn gate(kind: u8, k: u8) -> Model {
+fn gate(kind: u8, k: u8) -> Model
+    ensures { λ r. ⌜ OfCase (D.gateCase kind k) r ⌝ }
+{
     let mut gate = model_of(kind, k);
-    let a = body_before(k);
-    let b = gate_body(k);
-    gate.body_a = a;
-    gate.body_b = b;
+    gate.body_a = body_before(k);
+    gate.body_b = gate_body(k);
     gate
 }
 
+fn prepared_joint(kind: u8, k: u8) -> JointSim
+    ensures { λ r. ⌜ D.OfGate kind k r ⌝ }
+{
+    prepare(gate(kind, k), STEP)
+}
+
+fn unprepared_joint(kind: u8, k: u8) -> JointSim
+    ensures { λ r. ⌜ D.OfGate kind k r ⌝ }
+{
+    let gate = model_of(kind, k);
+    gate.joint
+}
+
+fn joint_of(kind: u8, k: u8, is_prepared: bool) -> JointSim
+    ensures { λ r. ⌜ D.OfGate kind k r ⌝ }
+{
+    if is_prepared {
+        return prepared_joint(kind, k);
+    }
+    unprepared_joint(kind, k)
+}
+
+fn joints_of(kind: u8, is_prepared: bool) -> [JointSim; 32]
+    ensures { λ r. ⌜ D.Joints kind r ⌝ }
+{
+    let mut joints = [joint_of(kind, 0, is_prepared); 32];
+    let mut k = 0u8;
+    while k < 32 {
+        joints[k as usize] = joint_of(kind, k, is_prepared);
+        k += 1;
+    }
+    joints
+}
+
 // Each gate moves and turns a little more than the one before it.
-fn gate_state(k: u8) -> BodyState {
-    let leaf = door(k);
-    let mut state = leaf.state_b;
+fn gate_state(k: u8) -> BodyState
+    ensures { λ r. ⌜ Moves r ⌝ }
+{
+    let mut state = moving(0.25);
     let more = 0.03125 * (k as f32);
-    let less = 0.5 - more;
-    let turn = 0.03 * more;
     state.linear_velocity.y = more;
-    state.angular_velocity.z = less;
-    state.delta_rotation.v.z = turn;
+    state.angular_velocity.z = 0.5 - more;
+    state.delta_rotation.v.z = 0.03 * more;
     state
 }
 
-fn gate_states() -> [BodyState; 32] {
+fn gate_states() -> [BodyState; 32]
+    ensures { λ r. ⌜ D.Bodies r ⌝ }
+{
     let mut states = [gate_state(0); 32];
-    let mut k = 1u8;
+    let mut k = 0u8;
     while k < 32 {
-        let at = k as usize;
-        states[at] = gate_state(k);
+        states[k as usize] = gate_state(k);
         k += 1;
     }
     states
 }
 
-fn wall_of(joints: [JointSim; 32]) -> Scene {
+fn wall_of(kind: u8, is_prepared: bool) -> Scene
+    ensures { λ r. ⌜ D.Wall kind r ⌝ }
+{
     Scene {
-        joints,
+        joints: joints_of(kind, is_prepared),
         bodies: gate_states(),
         joint_count: 32,
         body_count: 32,
@@ -84,42 +139,15 @@ fn wall_of(joints: [JointSim; 32]) -> Scene {
     }
 }
 
-fn unprepared_joint(kind: u8, k: u8) -> JointSim {
-    let model = model_of(kind, k);
-    model.joint
-}
-
-fn unprepared_joints(kind: u8) -> [JointSim; 32] {
-    let mut joints = [unprepared_joint(kind, 0); 32];
-    let mut k = 1u8;
-    while k < 32 {
-        let at = k as usize;
-        joints[at] = unprepared_joint(kind, k);
-        k += 1;
-    }
-    joints
-}
-
 // The wall with its joints before prepare.
-pub fn unprepared_wall(kind: u8) -> Scene {
-    wall_of(unprepared_joints(kind))
+pub fn unprepared_wall(kind: u8) -> Scene
+    ensures { λ r. ⌜ D.Wall kind r ⌝ }
+{
+    wall_of(kind, false)
 }
 
-fn prepared_joint(kind: u8, k: u8) -> JointSim {
-    prepare(gate(kind, k), STEP)
-}
-
-fn prepared_joints(kind: u8) -> [JointSim; 32] {
-    let mut joints = [prepared_joint(kind, 0); 32];
-    let mut k = 1u8;
-    while k < 32 {
-        let at = k as usize;
-        joints[at] = prepared_joint(kind, k);
-        k += 1;
-    }
-    joints
-}
-
-pub fn wall(kind: u8) -> Scene {
-    wall_of(prepared_joints(kind))
+pub fn wall(kind: u8) -> Scene
+    ensures { λ r. ⌜ D.Wall kind r ⌝ }
+{
+    wall_of(kind, true)
 }

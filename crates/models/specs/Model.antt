@@ -1,5 +1,6 @@
 -- What is promised of the models. Definitions only. Assumes nothing.
 use mathlib.Core.Path.{_≡_}
+use mathlib.Core.Bool.{true}
 use Prim.Native.Nat.{ℕ}
 use lib.IntN.{ℤ, pos}
 use Rattle.solver.specs.declared.StepContext.{StepContext}
@@ -12,7 +13,26 @@ use Rattle.revolute.specs.Revolute.{prepareRevoluteJoint}
 use Rattle.spherical.specs.Spherical.{prepareSphericalJoint}
 use Rattle.weld.specs.Weld.{prepareWeldJoint}
 use Rattle.records.specs.Joint.{caseOf}
+use Rattle.math_functions.specs.Float.{lit, zero, one}
+use Rattle.solver.specs.Solver.{softness}
 use Rattle.models.specs.declared.Model.{Model}
+
+-- STEP: 1/64 s in four sub-steps
+abbrev pub step : StepContext
+step =
+    record {
+      dt = lit 0x3c80_0000;
+      «inv_dt» = lit 0x4280_0000;
+      h = lit 0x3b80_0000;
+      «inv_h» = lit 0x4380_0000;
+      «sub_step_count» = pos 4;
+      «contact_softness» = softness zero zero zero;
+      «static_softness» = softness zero zero zero;
+      «restitution_threshold» = one;
+      «max_linear_velocity» = lit 0x43c8_0000;
+      «contact_speed» = lit 0x4040_0000;
+      «enable_warm_starting» = true;
+    }
 
 -- a body that is awake, with its index; one of the static set; a state that the solver writes to
 abbrev pub Awake : ℤ → BodyRecord → Type 0

@@ -1,12 +1,12 @@
-// The bodies of the models, and the part of a joint that does not depend on its kind.
+// The bodies of the models, and their states.
+ghost use mathlib.Core.Path.{_≡_};
 ghost use lib.IntN.{pos};
+ghost use Rattle.records.specs.Body.{identityBodyState};
 ghost use Rattle.models.specs.Model.{Awake, Fixed, Moves};
-use crate::STEP;
 use math_functions::types::MAT3_ZERO;
 use math_functions::types::Matrix3;
 use math_functions::types::QUAT_IDENTITY;
 use math_functions::types::Quat;
-use math_functions::types::Transform;
 use math_functions::types::VEC3_ZERO;
 use math_functions::types::Vec3;
 use records::AWAKE_SET;
@@ -14,9 +14,6 @@ use records::body::BodyRecord;
 use records::body::BodyState;
 use records::body::DYNAMIC_FLAG;
 use records::body::IDENTITY_BODY_STATE;
-use records::joint::JointBase;
-use records::joint::JointType;
-use solver::make_soft;
 
 // The inverse inertia of a slab that does not stand along the axes.
 pub const SLAB: Matrix3 = Matrix3 {
@@ -37,36 +34,6 @@ pub const SLAB: Matrix3 = Matrix3 {
     },
 };
 
-// A joint's frame on its first body, half way to the second.
-pub const FRAME_A: Transform = Transform {
-    p: Vec3 {
-        x: 0.5,
-        y: 0.0625,
-        z: -0.125,
-    },
-    q: QUAT_IDENTITY,
-};
-
-// And on the second, a little turned and tilted.
-pub const FRAME_B: Transform = Transform {
-    p: Vec3 {
-        x: -0.5,
-        y: 0.0625,
-        z: -0.125,
-    },
-    q: Quat {
-        v: Vec3 {
-            x: 0.03125,
-            y: 0.0625,
-            z: 0.046875,
-        },
-        s: 0.996454,
-    },
-};
-
-// The number of what stands fast, above those of all bodies that move.
-pub const POST: u8 = 32;
-
 // What stands fast: it is in the set of the static bodies, and has no state, so the identity state stands
 // for it.
 pub fn fixed_body() -> BodyRecord
@@ -83,7 +50,9 @@ pub fn fixed_body() -> BodyRecord
     }
 }
 
-pub fn fixed_state() -> BodyState {
+pub fn fixed_state() -> BodyState
+    ensures { λ r. ⌜ r ≡ identityBodyState ⌝ }
+{
     IDENTITY_BODY_STATE
 }
 
@@ -131,29 +100,5 @@ pub fn moving(speed: f32) -> BodyState
             s: 0.9994,
         },
         flags: DYNAMIC_FLAG,
-    }
-}
-
-// The part of a joint that no kind reads by itself: numbers, frames and the softness of a stiff joint.
-pub fn joint_base(type_: JointType, joint: u8, body_a: u8, body_b: u8) -> JointBase {
-    let hertz = 60.0;
-    let damping_ratio = 2.0;
-    JointBase {
-        joint_id: joint as i32,
-        body_id_a: body_a as i32,
-        body_id_b: body_b as i32,
-        type_,
-        local_frame_a: FRAME_A,
-        local_frame_b: FRAME_B,
-        inv_mass_a: 0.0,
-        inv_mass_b: 0.0,
-        inv_i_a: MAT3_ZERO,
-        inv_i_b: MAT3_ZERO,
-        constraint_hertz: hertz,
-        constraint_damping_ratio: damping_ratio,
-        constraint_softness: make_soft(hertz, damping_ratio, STEP.h),
-        force_threshold: 1000.0,
-        torque_threshold: 1000.0,
-        fixed_rotation: false,
     }
 }

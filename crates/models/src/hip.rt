@@ -6,7 +6,7 @@ ghost use Rattle.records.specs.Joint.{caseOf};
 ghost use Rattle.models.specs.Model.{OfCase, Awake, Moves};
 use crate::Model;
 use crate::NO_SOFTNESS;
-use crate::body::joint_base;
+use crate::base::joint_base;
 use crate::body::moving;
 use crate::body::slab;
 use math_functions::types::MAT3_ZERO;

@@ -1,6 +1,7 @@
 // The models that the programs run: a door on its hinge, a hip in its socket, and a strut welded to its
 // pier.
 ghost use mathlib.Core.Path.{_≡_};
+ghost use Rattle.records.specs.Joint.{caseOf};
 ghost use Rattle.models.specs.Model.{prepared};
 ghost use Rattle.revolute.specs.Revolute.{prepareRevoluteJoint};
 ghost use Rattle.spherical.specs.Spherical.{prepareSphericalJoint};
@@ -15,12 +16,15 @@ use solver::StepContext;
 use spherical::prepare_spherical_joint;
 use weld::prepare_weld_joint;
 
-mod body;
+mod base;
+pub mod body;
 pub mod door;
 pub mod hip;
 pub mod strut;
 
-// A joint before prepare, what prepare reads of its two bodies, and their states.
+// A joint before prepare, what prepare reads of its two bodies, and their states. The models promise
+// what a scene needs of them: the joint's case, which bodies are awake and at which index, and which
+// states the solver writes to. The other figures are an example's, and nothing rests on them.
 pub struct Model {
     pub joint: JointSim,
     pub body_a: BodyRecord,
@@ -71,16 +75,31 @@ fn prepare_weld(model: Model, context: StepContext) -> JointSim
     p.joint
 }
 
+fn case_of(joint: JointSim) -> u32
+    ensures { λ r. ⌜ r ≡ caseOf (joint .«union_») ⌝ }
+{
+    let union_ = joint.union_;
+    match union_ {
+        JointUnion::Revolute(_) => 0,
+        JointUnion::Spherical(_) => 1,
+        JointUnion::Weld(_) => 2,
+        JointUnion::Other => 3,
+    }
+}
+
 // The joint of a model after the prepare of its kind.
 pub fn prepare(model: Model, context: StepContext) -> JointSim
     ensures { λ r. ⌜ r ≡ prepared model context ⌝ }
 {
-    let joint = model.joint;
-    let union_ = joint.union_;
-    match union_ {
-        JointUnion::Revolute(_) => prepare_revolute(model, context),
-        JointUnion::Spherical(_) => prepare_spherical(model, context),
-        JointUnion::Weld(_) => prepare_weld(model, context),
-        JointUnion::Other => joint,
+    let case = case_of(model.joint);
+    if case == 0 {
+        return prepare_revolute(model, context);
     }
+    if case == 1 {
+        return prepare_spherical(model, context);
+    }
+    if case == 2 {
+        return prepare_weld(model, context);
+    }
+    model.joint
 }

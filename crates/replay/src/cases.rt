@@ -11,8 +11,8 @@ use crate::soft;
 use crate::stages;
 use crate::transform;
 use crate::vector;
-use case_words::words::plus;
-use case_words::words::word;
+use crate::words::plus;
+use crate::words::word;
 
 // How many bytes a case can have with its header: as many as the buffer holds.
 const ROOM: usize = 65536;

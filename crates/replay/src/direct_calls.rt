@@ -3,23 +3,24 @@
 // The inputs are the joint behind the number of its case, for a solve the context and the switch, then
 // how many states are lent, at most 3, and these. The answer is number, place, the joint and the
 // states. As in stages.rt, what was read is compared with the words that it was read from too.
-use case_words::compare::has_words;
-use case_words::compare::is_switch;
-use case_words::compare::same_word;
-use case_words::joint_words::cased_joint;
-use case_words::joint_words::is_cased_joint;
-use case_words::joint_words::same_joint;
-use case_words::joint_words::words_of;
-use case_words::record_words::CONTEXT_WORDS;
-use case_words::record_words::STATE_WORDS;
-use case_words::record_words::context;
-use case_words::record_words::same_context;
-use case_words::record_words::same_state;
-use case_words::record_words::state;
-use case_words::words::behind;
-use case_words::words::plus;
-use case_words::words::switch;
-use case_words::words::word;
+use crate::compare::has_words;
+use crate::compare::is_switch;
+use crate::compare::same_word;
+use crate::joint_words::cased_joint;
+use crate::joint_words::is_cased_joint;
+use crate::joint_words::same_joint;
+use crate::joint_words::words_of;
+use crate::record_words::CONTEXT_WORDS;
+use crate::record_words::STATE_WORDS;
+use crate::record_words::context;
+use crate::record_words::same_context;
+use crate::record_words::same_state;
+use crate::record_words::state;
+use crate::record_words::words_of_states;
+use crate::words::behind;
+use crate::words::plus;
+use crate::words::switch;
+use crate::words::word;
 use lent_calls::Left;
 use lent_calls::lend_solve_revolute_joint;
 use lent_calls::lend_solve_spherical_joint;
@@ -28,34 +29,35 @@ use lent_calls::lend_warm_start_revolute_joint;
 use lent_calls::lend_warm_start_spherical_joint;
 use lent_calls::lend_warm_start_weld_joint;
 use records::body::BodyState;
+use records::joint::JointSim;
 use solver::StepContext;
 
-// The call on the joint of the inputs and the states of `rest`.
-fn warm_start(kind: u32, p: &[u8], rest: &[u8], count: usize) -> Left {
-    let joint = cased_joint(p);
-    let states = states_at(rest);
-    match kind {
-        0 => lend_warm_start_revolute_joint(joint, states, count),
-        1 => lend_warm_start_spherical_joint(joint, states, count),
-        _ => lend_warm_start_weld_joint(joint, states, count),
+// The call of a kind.
+fn warm_start(kind: u32, joint: JointSim, states: [BodyState; 3], count: usize) -> Left {
+    if kind == 0 {
+        return lend_warm_start_revolute_joint(joint, states, count);
     }
+    if kind == 1 {
+        return lend_warm_start_spherical_joint(joint, states, count);
+    }
+    lend_warm_start_weld_joint(joint, states, count)
 }
 
 fn solve(
     kind: u32,
-    p: &[u8],
+    joint: JointSim,
     step: StepContext,
-    use_bias: bool,
-    rest: &[u8],
+    states: [BodyState; 3],
     count: usize,
+    use_bias: bool,
 ) -> Left {
-    let joint = cased_joint(p);
-    let states = states_at(rest);
-    match kind {
-        0 => lend_solve_revolute_joint(joint, step, states, count, use_bias),
-        1 => lend_solve_spherical_joint(joint, step, states, count, use_bias),
-        _ => lend_solve_weld_joint(joint, step, states, count, use_bias),
+    if kind == 0 {
+        return lend_solve_revolute_joint(joint, step, states, count, use_bias);
     }
+    if kind == 1 {
+        return lend_solve_spherical_joint(joint, step, states, count, use_bias);
+    }
+    lend_solve_weld_joint(joint, step, states, count, use_bias)
 }
 
 // Three states, of which the first are those that a case has.
@@ -72,7 +74,7 @@ fn same_lent(is_lent: bool, p: &[u8], state: BodyState) -> bool {
 }
 
 // Whether the words begin with those of the first `count` states.
-fn same_states(p: &[u8], states: [BodyState; 3], count: usize) -> bool {
+fn same_states(p: &[u8], states: [BodyState; 3], count: u32) -> bool {
     let first = states[0];
     let second = states[1];
     let third = states[2];
@@ -81,30 +83,20 @@ fn same_states(p: &[u8], states: [BodyState; 3], count: usize) -> bool {
         & same_lent(count > 2, behind(p, 2 * STATE_WORDS), third)
 }
 
-// How many words the states have, of which there are at most 3.
-fn words_of_states(count: usize) -> usize {
-    match count {
-        0 => 0,
-        1 => STATE_WORDS,
-        2 => 2 * STATE_WORDS,
-        _ => 3 * STATE_WORDS,
-    }
-}
-
 // Whether the words behind the states are the answer: number, place, the joint of the case, and the
 // states.
-fn same_left(case: u32, rest: &[u8], count: usize, left: Left) -> bool {
-    let states = left.states;
-    let answer = left.answer;
+fn same_left(case: u32, rest: &[u8], count: u32, left: Left) -> bool {
     let p = behind(rest, words_of_states(count));
+    let answer = left.answer;
+    let states = left.states;
     same_word(p, 0, answer.number)
         & same_word(p, 1, answer.place)
-        & same_joint(case, behind(p, 2), left.joint)
         & same_states(behind(p, plus(2, words_of(case))), states, count)
+        & same_joint(case, behind(p, 2), left.joint)
 }
 
 // Whether a case is as long as its parts: `before` words up to the states, and the answer.
-fn is_whole(p: &[u8], before: usize, joint_words: usize, count: usize) -> bool {
+fn is_whole(p: &[u8], before: usize, joint_words: usize, count: u32) -> bool {
     let states = words_of_states(count);
     count <= 3
         && has_words(
@@ -113,9 +105,9 @@ fn is_whole(p: &[u8], before: usize, joint_words: usize, count: usize) -> bool {
         )
 }
 
-// Whether the call leaves what the case says.
-fn is_warm_start(kind: u32, p: &[u8], rest: &[u8], count: usize) -> bool {
-    let left = warm_start(kind, p, rest, count);
+// Whether the call on the joint of the inputs and the states of `rest` leaves what the case says.
+fn is_warm_start(kind: u32, p: &[u8], rest: &[u8], count: u32) -> bool {
+    let left = warm_start(kind, cased_joint(p), states_at(rest), count as usize);
     same_left(word(p, 0), rest, count, left)
 }
 
@@ -125,16 +117,23 @@ fn is_solve(
     step: StepContext,
     use_bias: bool,
     rest: &[u8],
-    count: usize,
+    count: u32,
 ) -> bool {
-    let left = solve(kind, p, step, use_bias, rest, count);
+    let left = solve(
+        kind,
+        cased_joint(p),
+        step,
+        states_at(rest),
+        count as usize,
+        use_bias,
+    );
     same_left(word(p, 0), rest, count, left)
 }
 
 fn agrees_warm_start(kind: u32, p: &[u8]) -> bool {
     let joint_words = words_of(word(p, 0));
     let words = plus(1, joint_words);
-    let count = word(p, words) as usize;
+    let count = word(p, words);
     let before = plus(words, 1);
     is_whole(p, before, joint_words, count)
         & is_cased_joint(p)
@@ -146,7 +145,7 @@ fn agrees_solve(kind: u32, p: &[u8]) -> bool {
     let words = plus(1, joint_words);
     let step = context(behind(p, words));
     let bias = plus(words, CONTEXT_WORDS);
-    let count = word(p, plus(bias, 1)) as usize;
+    let count = word(p, plus(bias, 1));
     let before = plus(bias, 2);
     is_whole(p, before, joint_words, count)
         & is_cased_joint(p)

@@ -1,7 +1,7 @@
 // The cases of the functions of Vec2.
-use case_words::compare::answers_vec2;
-use case_words::words::float;
-use case_words::words::vec2;
+use crate::compare::answers_vec2;
+use crate::words::float;
+use crate::words::vec2;
 use math_functions::internal::add2;
 use math_functions::internal::mul_sv2;
 use math_functions::internal::sub2;

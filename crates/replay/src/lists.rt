@@ -5,23 +5,23 @@
 // number, place, still, the two counts, the context, the joints and the states. As in stages.rt,
 // what was read is compared with the words that it was read from too.
 ghost use Prim.Native.Nat.{_≤_};
+use crate::compare::has_words;
+use crate::compare::same_switch;
+use crate::compare::same_word;
+use crate::record_words::CONTEXT_WORDS;
+use crate::record_words::STATE_WORDS;
+use crate::record_words::context;
+use crate::record_words::same_context;
 use crate::scene_words::behind_joints;
 use crate::scene_words::joints_of;
 use crate::scene_words::same_joints;
 use crate::scene_words::same_states;
 use crate::scene_words::states_of;
 use crate::scene_words::words_of_joints;
+use crate::words::behind;
+use crate::words::plus;
+use crate::words::word;
 use call_list::run_list;
-use case_words::compare::has_words;
-use case_words::compare::same_switch;
-use case_words::compare::same_word;
-use case_words::record_words::CONTEXT_WORDS;
-use case_words::record_words::STATE_WORDS;
-use case_words::record_words::context;
-use case_words::record_words::same_context;
-use case_words::words::behind;
-use case_words::words::plus;
-use case_words::words::word;
 use scene::Run;
 use scene::Scene;
 
@@ -41,14 +41,29 @@ fn scene_of(p: &[u8], joints: usize, states: usize) -> Scene
     }
 }
 
+fn same_bodies(p: &[u8], states: usize, scene: Scene) -> bool {
+    let all = scene.bodies;
+    same_states(p, all, states)
+}
+
+fn same_slots(p: &[u8], joints: usize, scene: Scene) -> bool {
+    let all = scene.joints;
+    same_joints(p, all, joints)
+}
+
 // Whether the words are a scene's, from the context on.
 fn same_scene(p: &[u8], joints: usize, states: usize, scene: Scene) -> bool {
-    let all_joints = scene.joints;
-    let all_states = scene.bodies;
     let rest = behind(p, CONTEXT_WORDS);
     same_context(p, scene.context)
-        & same_joints(rest, all_joints, joints)
-        & same_states(behind_joints(rest, joints), all_states, states)
+        & same_bodies(behind_joints(rest, joints), states, scene)
+        & same_slots(rest, joints, scene)
+}
+
+// Whether the scene of the inputs has their words.
+fn is_scene(p: &[u8], joints: usize, states: usize) -> bool
+    requires { ⌜ (joints ≤ 32) × (states ≤ 32) ⌝ }
+{
+    same_scene(behind(p, 5), joints, states, scene_of(p, joints, states))
 }
 
 // The first n bytes, or all.
@@ -76,9 +91,12 @@ fn same_run(p: &[u8], joints: usize, states: usize, run: Run) -> bool {
 fn runs_to(p: &[u8], joints: usize, states: usize, list: &[u8], answer: &[u8]) -> bool
     requires { ⌜ (joints ≤ 32) × (states ≤ 32) ⌝ }
 {
-    let scene = scene_of(p, joints, states);
-    let run = run_list(scene, list);
-    same_scene(behind(p, 5), joints, states, scene) & same_run(answer, joints, states, run)
+    same_run(
+        answer,
+        joints,
+        states,
+        run_list(scene_of(p, joints, states), list),
+    )
 }
 
 // The case of `joints` joints, `states` states and a list of `bytes` bytes.
@@ -94,6 +112,7 @@ fn agrees_run(p: &[u8], joints: usize, states: usize, bytes: usize) -> bool
         p,
         plus(plus(2 * HEAD_WORDS, plus(words, words)), list_words),
     )
+        & is_scene(p, joints, states)
         & runs_to(p, joints, states, first_bytes(list, bytes), answer)
 }
 

@@ -1,18 +1,25 @@
 // Runs the test cases of standard input, then those of each file that the arguments name, and prints
 // how many there are, and in how many of them the library's answer is not the recorded one.
 mod cases;
+mod compare;
 mod direct_calls;
 mod internal;
+mod joint_words;
 mod lists;
 mod matrix;
 mod quat;
+mod record_words;
+mod revolute_words;
 mod scalar;
 mod scene_words;
 mod soft;
+mod spherical_words;
 mod stage_calls;
 mod stages;
 mod transform;
 mod vector;
+mod weld_words;
+mod words;
 
 ghost use Prim.Native.Nat.{_≤_};
 ghost use lib.ListN.{length};

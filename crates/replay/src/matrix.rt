@@ -1,12 +1,12 @@
 // The cases of the matrix functions.
-use case_words::compare::answers_float;
-use case_words::compare::answers_matrix3;
-use case_words::compare::answers_vec2;
-use case_words::compare::answers_vec3;
-use case_words::words::mat2;
-use case_words::words::matrix3;
-use case_words::words::vec2;
-use case_words::words::vec3;
+use crate::compare::answers_float;
+use crate::compare::answers_matrix3;
+use crate::compare::answers_vec2;
+use crate::compare::answers_vec3;
+use crate::words::mat2;
+use crate::words::matrix3;
+use crate::words::vec2;
+use crate::words::vec3;
 use math_functions::matrix::add_mm;
 use math_functions::matrix::det;
 use math_functions::matrix::det2;

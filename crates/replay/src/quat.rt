@@ -1,9 +1,9 @@
 // The cases of the quaternion functions.
-use case_words::compare::answers_float;
-use case_words::compare::answers_quat;
-use case_words::compare::answers_vec3;
-use case_words::words::quat;
-use case_words::words::vec3;
+use crate::compare::answers_float;
+use crate::compare::answers_quat;
+use crate::compare::answers_vec3;
+use crate::words::quat;
+use crate::words::vec3;
 use math_functions::quat::conjugate;
 use math_functions::quat::delta_quat_to_rotation;
 use math_functions::quat::dot_quat;

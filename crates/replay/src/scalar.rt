@@ -1,6 +1,6 @@
 // The cases of the scalar functions, and of sqrt.
-use case_words::compare::answers_float;
-use case_words::words::float;
+use crate::compare::answers_float;
+use crate::words::float;
 use math_functions::scalar::abs_float;
 use math_functions::scalar::atan2;
 use math_functions::scalar::clamp_float;

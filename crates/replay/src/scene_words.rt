@@ -1,17 +1,17 @@
 // The joints and states of a scene: as many as a case gives, one behind the other, the joints each
 // behind the number of its case. The places behind them are not in use.
 ghost use Prim.Native.Nat.{_≤_};
-use case_words::joint_words::OTHER;
-use case_words::joint_words::cased_joint;
-use case_words::joint_words::cased_words;
-use case_words::joint_words::same_cased_joint;
-use case_words::joint_words::same_joint;
-use case_words::record_words::STATE_WORDS;
-use case_words::record_words::context;
-use case_words::record_words::same_state;
-use case_words::record_words::state;
-use case_words::words::behind;
-use case_words::words::plus;
+use crate::joint_words::OTHER;
+use crate::joint_words::cased_joint;
+use crate::joint_words::cased_words;
+use crate::joint_words::same_cased_joint;
+use crate::joint_words::same_joint;
+use crate::record_words::STATE_WORDS;
+use crate::record_words::context;
+use crate::record_words::same_state;
+use crate::record_words::state;
+use crate::words::behind;
+use crate::words::plus;
 use records::body::BodyState;
 use records::body::IDENTITY_BODY_STATE;
 use records::joint::JointSim;
@@ -38,8 +38,9 @@ pub fn behind_joints(p: &[u8], count: usize) -> &[u8] {
     behind(p, words_of_joints(p, count))
 }
 
-fn joint_at(p: &[u8], i: usize) -> JointSim {
-    cased_joint(behind(p, i))
+// Joint k of some words.
+fn joint_at(p: &[u8], k: usize) -> JointSim {
+    cased_joint(behind_joints(p, k))
 }
 
 // The joints of a scene that has none in use, whatever its context.
@@ -53,12 +54,9 @@ pub fn joints_of(p: &[u8], count: usize) -> [JointSim; 32]
     requires { ⌜ count ≤ 32 ⌝ }
 {
     let mut joints = no_joints(p);
-    let mut words = 0usize;
     let mut k = 0usize;
     while k < count {
-        let joint = joint_at(p, words);
-        joints[k] = joint;
-        words = behind_joint(p, words);
+        joints[k] = joint_at(p, k);
         k += 1;
     }
     joints
@@ -70,8 +68,7 @@ pub fn states_of(p: &[u8], count: usize) -> [BodyState; 32]
     let mut states = [IDENTITY_BODY_STATE; 32];
     let mut k = 0usize;
     while k < count {
-        let state = state(behind(p, k * STATE_WORDS));
-        states[k] = state;
+        states[k] = state(behind(p, k * STATE_WORDS));
         k += 1;
     }
     states
@@ -93,9 +90,9 @@ fn is_identity_state(state: BodyState) -> bool {
     same_state(words, state)
 }
 
-fn same_joint_place(is_given: bool, p: &[u8], i: usize, joint: JointSim) -> bool {
+fn same_joint_place(is_given: bool, p: &[u8], joint: JointSim) -> bool {
     if is_given {
-        return same_cased_joint(behind(p, i), joint);
+        return same_cased_joint(p, joint);
     }
     is_unused_joint(joint)
 }
@@ -110,11 +107,9 @@ fn same_state_place(is_given: bool, p: &[u8], state: BodyState) -> bool {
 // Whether the words are those of the first `count` joints, and the others are unused.
 pub fn same_joints(p: &[u8], joints: [JointSim; 32], count: usize) -> bool {
     let mut same = true;
-    let mut words = 0usize;
     let mut k = 0usize;
     while k < 32 {
-        same = same & same_joint_place(k < count, p, words, joints[k]);
-        words = behind_joint(p, words);
+        same = same & same_joint_place(k < count, behind_joints(p, k), joints[k]);
         k += 1;
     }
     same
@@ -124,9 +119,7 @@ pub fn same_states(p: &[u8], states: [BodyState; 32], count: usize) -> bool {
     let mut same = true;
     let mut k = 0usize;
     while k < 32 {
-        let rest = behind(p, k * STATE_WORDS);
-        let state = states[k];
-        same = same & same_state_place(k < count, rest, state);
+        same = same & same_state_place(k < count, behind(p, k * STATE_WORDS), states[k]);
         k += 1;
     }
     same

@@ -1,6 +1,6 @@
 // The cases of the solver's soft constraint coefficients.
-use case_words::compare::answers_softness;
-use case_words::words::float;
+use crate::compare::answers_softness;
+use crate::words::float;
 use solver::make_soft;
 
 pub fn agrees(f: u32, p: &[u8]) -> bool {

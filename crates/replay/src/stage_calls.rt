@@ -1,18 +1,11 @@
 // The stages of the kinds, called alike. A kind is a number: 0 for the revolute joint, 1 for the
 // spherical one, and else the weld joint.
-use case_words::joint_words::joint;
-use case_words::joint_words::words_of;
-use case_words::record_words::BODY_WORDS;
-use case_words::record_words::CONTEXT_WORDS;
-use case_words::record_words::body;
-use case_words::record_words::context;
-use case_words::words::behind;
-use case_words::words::plus;
 use constraint::answer::Prepared;
 use constraint::answer::Solved;
 use constraint::answer::WarmStarted;
-use joint::store::StatePair;
 use records::body::BodyRecord;
+use records::body::BodyState;
+use records::joint::JointSim;
 use revolute::prepare_revolute_joint;
 use revolute::solve_revolute_joint;
 use revolute::warm_start_revolute_joint;
@@ -24,40 +17,50 @@ use weld::prepare_weld_joint;
 use weld::solve_weld_joint;
 use weld::warm_start_weld_joint;
 
-// The body that stands i words behind the joint.
-fn body_at(kind: u32, p: &[u8], i: usize) -> BodyRecord {
-    body(behind(p, plus(words_of(kind), i)))
+pub fn prepare(
+    kind: u32,
+    joint: JointSim,
+    step: StepContext,
+    body_a: BodyRecord,
+    body_b: BodyRecord,
+) -> Prepared {
+    if kind == 0 {
+        return prepare_revolute_joint(joint, step, body_a, body_b);
+    }
+    if kind == 1 {
+        return prepare_spherical_joint(joint, step, body_a, body_b);
+    }
+    prepare_weld_joint(joint, step, body_a, body_b)
 }
 
-// Prepare takes the joint, the context and the two bodies.
-pub fn prepare(kind: u32, p: &[u8]) -> Prepared {
-    let joint = joint(kind, p);
-    let step = context(behind(p, words_of(kind)));
-    let body_a = body_at(kind, p, CONTEXT_WORDS);
-    let body_b = body_at(kind, p, CONTEXT_WORDS + BODY_WORDS);
-    match kind {
-        0 => prepare_revolute_joint(joint, step, body_a, body_b),
-        1 => prepare_spherical_joint(joint, step, body_a, body_b),
-        _ => prepare_weld_joint(joint, step, body_a, body_b),
+pub fn warm_start(
+    kind: u32,
+    joint: JointSim,
+    state_a: BodyState,
+    state_b: BodyState,
+) -> WarmStarted {
+    if kind == 0 {
+        return warm_start_revolute_joint(joint, state_a, state_b);
     }
+    if kind == 1 {
+        return warm_start_spherical_joint(joint, state_a, state_b);
+    }
+    warm_start_weld_joint(joint, state_a, state_b)
 }
 
-// Warm start takes the joint and the states of its bodies.
-pub fn warm_start(kind: u32, p: &[u8], pair: StatePair) -> WarmStarted {
-    let joint = joint(kind, p);
-    match kind {
-        0 => warm_start_revolute_joint(joint, pair.state_a, pair.state_b),
-        1 => warm_start_spherical_joint(joint, pair.state_a, pair.state_b),
-        _ => warm_start_weld_joint(joint, pair.state_a, pair.state_b),
+pub fn solve(
+    kind: u32,
+    joint: JointSim,
+    step: StepContext,
+    state_a: BodyState,
+    state_b: BodyState,
+    use_bias: bool,
+) -> Solved {
+    if kind == 0 {
+        return solve_revolute_joint(joint, step, state_a, state_b, use_bias);
     }
-}
-
-// Solve takes the joint, the context, a switch and the states of its bodies.
-pub fn solve(kind: u32, p: &[u8], step: StepContext, use_bias: bool, pair: StatePair) -> Solved {
-    let joint = joint(kind, p);
-    match kind {
-        0 => solve_revolute_joint(joint, step, pair.state_a, pair.state_b, use_bias),
-        1 => solve_spherical_joint(joint, step, pair.state_a, pair.state_b, use_bias),
-        _ => solve_weld_joint(joint, step, pair.state_a, pair.state_b, use_bias),
+    if kind == 1 {
+        return solve_spherical_joint(joint, step, state_a, state_b, use_bias);
     }
+    solve_weld_joint(joint, step, state_a, state_b, use_bias)
 }

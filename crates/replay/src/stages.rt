@@ -2,87 +2,77 @@
 //
 // What is read of the inputs is compared with their words too: those of a switch that is neither 0
 // nor 1, and of a type that there is not, differ from what is read.
+use crate::compare::has_words;
+use crate::compare::is_switch;
+use crate::joint_words::indices;
+use crate::joint_words::is_joint;
+use crate::joint_words::joint;
+use crate::joint_words::same_joint;
+use crate::joint_words::words_of;
+use crate::record_words::BODY_WORDS;
+use crate::record_words::CONTEXT_WORDS;
+use crate::record_words::body;
+use crate::record_words::context;
+use crate::record_words::same_context;
+use crate::record_words::same_state;
+use crate::record_words::state;
+use crate::record_words::words_of_states;
 use crate::stage_calls::prepare;
 use crate::stage_calls::solve;
 use crate::stage_calls::warm_start;
-use case_words::compare::has_words;
-use case_words::compare::is_switch;
-use case_words::joint_words::is_joint;
-use case_words::joint_words::joint;
-use case_words::joint_words::same_joint;
-use case_words::joint_words::words_of;
-use case_words::record_words::BODY_WORDS;
-use case_words::record_words::CONTEXT_WORDS;
-use case_words::record_words::STATE_WORDS;
-use case_words::record_words::context;
-use case_words::record_words::same_context;
-use case_words::record_words::same_state;
-use case_words::record_words::state;
-use case_words::words::behind;
-use case_words::words::int;
-use case_words::words::plus;
-use case_words::words::switch;
+use crate::words::behind;
+use crate::words::plus;
+use crate::words::switch;
+use crate::words::word;
 use constraint::velocity::Velocities;
 use joint::index::Indices;
-use joint::index::indices_of;
+use joint::index::bad_index;
 use joint::store::StatePair;
 use joint::store::store_pair;
 use records::NULL_INDEX;
+use records::body::BodyRecord;
 use records::body::BodyState;
 use records::body::IDENTITY_BODY_STATE;
+use records::joint::JointSim;
 use solver::StepContext;
 
 // Where a case with states has its parts.
 struct Parts {
-    count: i32,
+    count: u32,
     states: usize,
     joint_after: usize,
     states_after: usize,
     end: usize,
 }
 
-// The index behind k states, of which a case has at most 3.
-fn behind_states(i: usize, k: i32) -> usize {
-    match k {
-        0 => i,
-        1 => plus(i, STATE_WORDS),
-        2 => plus(i, 2 * STATE_WORDS),
-        _ => plus(i, 3 * STATE_WORDS),
-    }
-}
-
 // The parts of a case whose count of states is the word at i.
 fn parts_of(kind: u32, p: &[u8], i: usize) -> Parts {
-    let count = int(p, i);
+    let count = word(p, i);
     let states = plus(i, 1);
-    let joint_after = behind_states(states, count);
+    let joint_after = plus(states, words_of_states(count));
     let states_after = plus(joint_after, words_of(kind));
     Parts {
         count,
         states,
         joint_after,
         states_after,
-        end: behind_states(states_after, count),
+        end: plus(states_after, words_of_states(count)),
     }
+}
+
+// State k of those whose words begin at i.
+fn state_at(p: &[u8], i: usize, k: u32) -> BodyState {
+    state(behind(p, plus(i, words_of_states(k))))
 }
 
 // The state of an index, among those whose words begin at i.
 fn state_of(p: &[u8], i: usize, index: i32) -> BodyState {
-    if index == NULL_INDEX {
-        return IDENTITY_BODY_STATE;
+    match index {
+        0 => state_at(p, i, 0),
+        1 => state_at(p, i, 1),
+        2 => state_at(p, i, 2),
+        _ => IDENTITY_BODY_STATE,
     }
-    state(behind(p, behind_states(i, index)))
-}
-
-fn is_index(index: i32, count: i32) -> bool {
-    index >= NULL_INDEX && index < count
-}
-
-// The indices of the joint that the inputs begin with.
-fn indices_at(kind: u32, p: &[u8]) -> Indices {
-    let joint = joint(kind, p);
-    let union_ = joint.union_;
-    indices_of(union_)
 }
 
 // The states of a joint's bodies.
@@ -101,15 +91,15 @@ fn stored(at: Indices, pair: StatePair, v: Velocities) -> StatePair {
 
 // Whether the answer has state k as the stage left it: as it was in the inputs, unless it is that of
 // one of the bodies.
-fn same_state_of(p: &[u8], parts: Parts, k: i32, at: Indices, pair: StatePair) -> bool {
-    let after = behind(p, behind_states(parts.states_after, k));
-    if at.b == k {
+fn same_state_of(p: &[u8], parts: Parts, k: u8, at: Indices, pair: StatePair) -> bool {
+    let after = behind(p, plus(parts.states_after, words_of_states(k as u32)));
+    if at.b == k as i32 {
         return same_state(after, pair.state_b);
     }
-    if at.a == k {
+    if at.a == k as i32 {
         return same_state(after, pair.state_a);
     }
-    same_state(after, state(behind(p, behind_states(parts.states, k))))
+    same_state(after, state_at(p, parts.states, k as u32))
 }
 
 fn same_states(p: &[u8], parts: Parts, at: Indices, pair: StatePair) -> bool {
@@ -122,18 +112,25 @@ fn same_states(p: &[u8], parts: Parts, at: Indices, pair: StatePair) -> bool {
 // Whether a case has a count of states that is allowed, the words that go with it, and indices below
 // it.
 fn is_whole(p: &[u8], parts: Parts, at: Indices) -> bool {
-    let count = parts.count;
-    count >= 0
-        && count <= 3
-        && has_words(p, parts.end)
-        && is_index(at.a, count)
-        && is_index(at.b, count)
+    let count = parts.count as usize;
+    count <= 3 && has_words(p, parts.end) && !bad_index(count, at.a) && !bad_index(count, at.b)
 }
 
-// Whether the stage leaves what the answer has.
+// The body that stands i words behind the joint.
+fn body_at(kind: u32, p: &[u8], i: usize) -> BodyRecord {
+    body(behind(p, plus(words_of(kind), i)))
+}
+
+// Prepare takes the joint, the context and the two bodies. Whether it leaves what the answer has.
 fn is_prepare(kind: u32, p: &[u8], answer: &[u8]) -> bool {
-    let r = prepare(kind, p);
-    same_joint(kind, answer, r.joint) & (r.number == 0) & (r.place == 0)
+    let r = prepare(
+        kind,
+        joint(kind, p),
+        context(behind(p, words_of(kind))),
+        body_at(kind, p, CONTEXT_WORDS),
+        body_at(kind, p, CONTEXT_WORDS + BODY_WORDS),
+    );
+    (r.number == 0) & (r.place == 0) & same_joint(kind, answer, r.joint)
 }
 
 fn agrees_prepare(kind: u32, p: &[u8]) -> bool {
@@ -146,21 +143,34 @@ fn agrees_prepare(kind: u32, p: &[u8]) -> bool {
         & is_prepare(kind, p, behind(p, answer))
 }
 
+// Whether the answer has what a stage left: the states with its velocities stored, and the joint.
+fn same_left(
+    kind: u32,
+    p: &[u8],
+    parts: Parts,
+    at: Indices,
+    pair: StatePair,
+    v: Velocities,
+    joint: JointSim,
+) -> bool {
+    same_states(p, parts, at, stored(at, pair, v))
+        & same_joint(kind, behind(p, parts.joint_after), joint)
+}
+
+// Warm start takes the joint and the states of its bodies.
 fn is_warm_start(kind: u32, p: &[u8], parts: Parts, at: Indices) -> bool {
     let pair = states_of(p, parts, at);
-    let r = warm_start(kind, p, pair);
-    same_joint(kind, behind(p, parts.joint_after), r.joint)
-        & same_states(p, parts, at, stored(at, pair, r.velocities))
-        & (r.number == 0)
-        & (r.place == 0)
+    let r = warm_start(kind, joint(kind, p), pair.state_a, pair.state_b);
+    (r.number == 0) & (r.place == 0) & same_left(kind, p, parts, at, pair, r.velocities, r.joint)
 }
 
 fn agrees_warm_start(kind: u32, p: &[u8]) -> bool {
     let parts = parts_of(kind, p, words_of(kind));
-    let at = indices_at(kind, p);
+    let at = indices(kind, p);
     is_whole(p, parts, at) & is_joint(kind, p) & is_warm_start(kind, p, parts, at)
 }
 
+// Solve takes the joint, the context, a switch and the states of its bodies.
 fn is_solve(
     kind: u32,
     p: &[u8],
@@ -170,11 +180,15 @@ fn is_solve(
     at: Indices,
 ) -> bool {
     let pair = states_of(p, parts, at);
-    let r = solve(kind, p, step, use_bias, pair);
-    same_joint(kind, behind(p, parts.joint_after), r.joint)
-        & same_states(p, parts, at, stored(at, pair, r.velocities))
-        & (r.number == 0)
-        & (r.place == 0)
+    let r = solve(
+        kind,
+        joint(kind, p),
+        step,
+        pair.state_a,
+        pair.state_b,
+        use_bias,
+    );
+    (r.number == 0) & (r.place == 0) & same_left(kind, p, parts, at, pair, r.velocities, r.joint)
 }
 
 fn agrees_solve(kind: u32, p: &[u8]) -> bool {
@@ -182,7 +196,7 @@ fn agrees_solve(kind: u32, p: &[u8]) -> bool {
     let bias = words + CONTEXT_WORDS;
     let step = context(behind(p, words));
     let parts = parts_of(kind, p, bias + 1);
-    let at = indices_at(kind, p);
+    let at = indices(kind, p);
     is_whole(p, parts, at)
         & is_joint(kind, p)
         & same_context(behind(p, words), step)

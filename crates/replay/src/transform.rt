@@ -1,6 +1,6 @@
 // The cases of the functions of world positions, which are Vec3 here.
-use case_words::compare::answers_vec3;
-use case_words::words::vec3;
+use crate::compare::answers_vec3;
+use crate::words::vec3;
 use math_functions::transform::sub_pos;
 
 pub fn agrees(f: u32, p: &[u8]) -> bool {

@@ -1,8 +1,8 @@
 // The cases of the functions of Vec3.
-use case_words::compare::answers_float;
-use case_words::compare::answers_vec3;
-use case_words::words::float;
-use case_words::words::vec3;
+use crate::compare::answers_float;
+use crate::compare::answers_vec3;
+use crate::words::float;
+use crate::words::vec3;
 use math_functions::types::Vec3;
 use math_functions::vector::add;
 use math_functions::vector::cross;

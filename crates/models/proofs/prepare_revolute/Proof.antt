@@ -1,3 +1,4 @@
+-- `prepare_revolute` equals its definition. Assumes nothing.
 use mathlib.Core.Path.{ap}
 use Rattle.models.proofs.prepare_revolute.Statement.{statement}
 use Rattle.models.proofs.prepare_revolute.Tie as tie

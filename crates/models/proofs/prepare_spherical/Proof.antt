@@ -1,3 +1,4 @@
+-- `prepare_spherical` equals its definition. Assumes nothing.
 use mathlib.Core.Path.{ap}
 use Rattle.models.proofs.prepare_spherical.Statement.{statement}
 use Rattle.models.proofs.prepare_spherical.Tie as tie

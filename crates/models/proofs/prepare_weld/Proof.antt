@@ -1,3 +1,4 @@
+-- `prepare_weld` equals its definition. Assumes nothing.
 use mathlib.Core.Path.{ap}
 use Rattle.models.proofs.prepare_weld.Statement.{statement}
 use Rattle.models.proofs.prepare_weld.Tie as tie

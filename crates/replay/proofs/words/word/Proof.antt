@@ -1,9 +1,9 @@
 -- `words::word` equals its definition. Assumes nothing.
 use borrow.Author.Needs.{needs}
 use borrow.Author.Tests.{lt-ltb, le-ltb}
-use Rattle.case_words.specs.Words.{wordAt}
-use Rattle.case_words.proofs.words.word.Statement.{statement}
-use Rattle.case_words.proofs.words.word.Tie as tie
+use Rattle.replay.specs.Words.{wordAt}
+use Rattle.replay.proofs.words.word.Statement.{statement}
+use Rattle.replay.proofs.words.word.Tie as tie
 
 mul-at : tie.Need-mul-at
 mul-at c = search needs

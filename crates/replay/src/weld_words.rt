@@ -34,8 +34,10 @@ pub fn record(p: &[u8]) -> WeldJoint {
     }
 }
 
-pub fn same_record(p: &[u8], j: WeldJoint) -> bool {
-    same_float(p, 0, j.linear_hertz)
+// Whether a case is the weld joint's, and the words are the record's.
+pub fn same_record(case: u32, p: &[u8], j: WeldJoint) -> bool {
+    (case == 2)
+        & same_float(p, 0, j.linear_hertz)
         & same_float(p, 1, j.linear_damping_ratio)
         & same_float(p, 2, j.angular_hertz)
         & same_float(p, 3, j.angular_damping_ratio)

@@ -2,8 +2,8 @@
 use mathlib.Core.Path.{ap, _∙_}
 use lib.Ieee.{binary32, ofBits}
 use borrow.Author.Needs.{needs}
-use Rattle.case_words.proofs.words.float.Statement.{statement}
-use Rattle.case_words.proofs.words.float.Tie as tie
+use Rattle.replay.proofs.words.float.Statement.{statement}
+use Rattle.replay.proofs.words.float.Tie as tie
 
 word-requires : tie.Need-word-requires
 word-requires c κs = search needs

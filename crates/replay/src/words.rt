@@ -7,7 +7,7 @@ ghost use Prim.Native.Nat.{_+_, _-_, _*_, _%_, _^_};
 ghost use lib.Dec.{eqb};
 ghost use lib.Ieee.{binary32, ofBits};
 ghost use lib.ListN.{length};
-ghost use Rattle.case_words.specs.Words as D;
+ghost use Rattle.replay.specs.Words as D;
 use math_functions::matrix::Mat2;
 use math_functions::types::Matrix3;
 use math_functions::types::Quat;

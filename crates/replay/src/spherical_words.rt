@@ -90,6 +90,7 @@ fn same_solver_data(p: &[u8], j: SphericalJoint) -> bool {
         & same_switch(p, 67, j.enable_twist_limit)
 }
 
-pub fn same_record(p: &[u8], j: SphericalJoint) -> bool {
-    same_settings(p, j) & same_solver_data(p, j)
+// Whether a case is the spherical joint's, and the words are the record's.
+pub fn same_record(case: u32, p: &[u8], j: SphericalJoint) -> bool {
+    (case == 1) & same_settings(p, j) & same_solver_data(p, j)
 }

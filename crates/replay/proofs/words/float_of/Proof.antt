@@ -7,8 +7,8 @@ use mathlib.Core.Path.{_≡_, refl, sym, subst, _∙_}
 use lib.Dec.{T}
 use lib.Ieee.{Float, nan, inf, fin, isNan, div, binary32, ofBits}
 use lib.Ieee.Bits.{nanBits-is, nanBits-above}
-use Rattle.case_words.proofs.words.float_of.Statement.{statement}
-use Rattle.case_words.proofs.words.float_of.Tie as tie
+use Rattle.replay.proofs.words.float_of.Statement.{statement}
+use Rattle.replay.proofs.words.float_of.Tie as tie
 
 a-nan : (x : Float) → isNan x ≡ true → x ≡ nan
 unfolding isNan

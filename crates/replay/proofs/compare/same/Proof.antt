@@ -1,8 +1,8 @@
--- `case_words::compare::same` is safe: a float that equals itself is no NaN, so it has a pattern. Assumes nothing.
+-- `replay::compare::same` is safe: a float that equals itself is no NaN, so it has a pattern. Assumes nothing.
 use borrow.Author.Needs.{needs}
 use Rattle.sqrt.proofs.Nans.{same-no-nan}
-use Rattle.case_words.proofs.compare.same.Statement.{statement}
-use Rattle.case_words.proofs.compare.same.Tie as tie
+use Rattle.replay.proofs.compare.same.Statement.{statement}
+use Rattle.replay.proofs.compare.same.Tie as tie
 
 float-of-requires : tie.Need-float-of-requires
 float-of-requires c κs = search needs

@@ -84,6 +84,7 @@ fn same_solver_data(p: &[u8], j: RevoluteJoint) -> bool {
         & same_switch(p, 51, j.enable_limit)
 }
 
-pub fn same_record(p: &[u8], j: RevoluteJoint) -> bool {
-    same_settings(p, j) & same_solver_data(p, j)
+// Whether a case is the revolute joint's, and the words are the record's.
+pub fn same_record(case: u32, p: &[u8], j: RevoluteJoint) -> bool {
+    (case == 0) & same_settings(p, j) & same_solver_data(p, j)
 }

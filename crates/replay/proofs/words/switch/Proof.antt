@@ -3,8 +3,8 @@ use mathlib.Core.Path.{ap}
 use mathlib.Core.Bool.{not}
 use lib.Dec.{eqb}
 use borrow.Author.Needs.{needs}
-use Rattle.case_words.proofs.words.switch.Statement.{statement}
-use Rattle.case_words.proofs.words.switch.Tie as tie
+use Rattle.replay.proofs.words.switch.Statement.{statement}
+use Rattle.replay.proofs.words.switch.Tie as tie
 
 word-requires : tie.Need-word-requires
 word-requires c κs = search needs

@@ -10,6 +10,8 @@ use crate::spherical_words;
 use crate::weld_words;
 use crate::words::behind;
 use crate::words::word;
+use joint::index::Indices;
+use joint::index::indices_of;
 use records::joint::JointSim;
 use records::joint::JointUnion;
 
@@ -28,15 +30,6 @@ pub fn words_of(case: u32) -> usize
     }
 }
 
-fn case_of(union_: JointUnion) -> u32 {
-    match union_ {
-        JointUnion::Revolute(_) => 0,
-        JointUnion::Spherical(_) => 1,
-        JointUnion::Weld(_) => 2,
-        JointUnion::Other => OTHER,
-    }
-}
-
 fn record(case: u32, p: &[u8]) -> JointUnion {
     match case {
         0 => JointUnion::Revolute(revolute_words::record(p)),
@@ -46,12 +39,13 @@ fn record(case: u32, p: &[u8]) -> JointUnion {
     }
 }
 
-fn same_record(p: &[u8], union_: JointUnion) -> bool {
+// Whether a record is of this case, and the words are its.
+fn same_record(case: u32, p: &[u8], union_: JointUnion) -> bool {
     match union_ {
-        JointUnion::Revolute(j) => revolute_words::same_record(p, j),
-        JointUnion::Spherical(j) => spherical_words::same_record(p, j),
-        JointUnion::Weld(j) => weld_words::same_record(p, j),
-        JointUnion::Other => true,
+        JointUnion::Revolute(j) => revolute_words::same_record(case, p, j),
+        JointUnion::Spherical(j) => spherical_words::same_record(case, p, j),
+        JointUnion::Weld(j) => weld_words::same_record(case, p, j),
+        JointUnion::Other => case == OTHER,
     }
 }
 
@@ -62,12 +56,15 @@ pub fn joint(case: u32, p: &[u8]) -> JointSim {
     }
 }
 
+// The body indices of a joint.
+pub fn indices(case: u32, p: &[u8]) -> Indices {
+    indices_of(record(case, behind(p, BASE_WORDS)))
+}
+
 // Whether a joint is of this case, and the words are its.
 pub fn same_joint(case: u32, p: &[u8], joint: JointSim) -> bool {
     let union_ = joint.union_;
-    (case_of(union_) == case)
-        & same_base(p, joint.base)
-        & same_record(behind(p, BASE_WORDS), union_)
+    same_record(case, behind(p, BASE_WORDS), union_) & same_base(p, joint.base)
 }
 
 // Whether the words are those of a joint at all, as they are not where a switch is neither 0 nor 1.
