@@ -109,9 +109,11 @@ fn gate_state(k: u8) -> BodyState
 {
     let mut state = moving(0.25);
     let more = 0.03125 * (k as f32);
+    let less = 0.5 - more;
+    let turn = 0.03 * more;
     state.linear_velocity.y = more;
-    state.angular_velocity.z = 0.5 - more;
-    state.delta_rotation.v.z = 0.03 * more;
+    state.angular_velocity.z = less;
+    state.delta_rotation.v.z = turn;
     state
 }
 

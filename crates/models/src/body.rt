@@ -1,7 +1,5 @@
 // The bodies of the models, and their states.
-ghost use mathlib.Core.Path.{_≡_};
 ghost use lib.IntN.{pos};
-ghost use Rattle.records.specs.Body.{identityBodyState};
 ghost use Rattle.models.specs.Model.{Awake, Fixed, Moves};
 use math_functions::types::MAT3_ZERO;
 use math_functions::types::Matrix3;
@@ -13,7 +11,6 @@ use records::AWAKE_SET;
 use records::body::BodyRecord;
 use records::body::BodyState;
 use records::body::DYNAMIC_FLAG;
-use records::body::IDENTITY_BODY_STATE;
 
 // The inverse inertia of a slab that does not stand along the axes.
 pub const SLAB: Matrix3 = Matrix3 {
@@ -34,8 +31,7 @@ pub const SLAB: Matrix3 = Matrix3 {
     },
 };
 
-// What stands fast: it is in the set of the static bodies, and has no state, so the identity state stands
-// for it.
+// What stands fast: it is in the set of the static bodies, and has no state.
 pub fn fixed_body() -> BodyRecord
     ensures { λ r. ⌜ Fixed r ⌝ }
 {
@@ -48,12 +44,6 @@ pub fn fixed_body() -> BodyRecord
         center: VEC3_ZERO,
         local_center: VEC3_ZERO,
     }
-}
-
-pub fn fixed_state() -> BodyState
-    ensures { λ r. ⌜ r ≡ identityBodyState ⌝ }
-{
-    IDENTITY_BODY_STATE
 }
 
 // A slab at an index of the awake set, with its centre at x.

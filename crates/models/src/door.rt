@@ -3,14 +3,12 @@
 ghost use mathlib.Core.Path.{_≡_};
 ghost use lib.IntN.{pos};
 ghost use Rattle.records.specs.Joint.{caseOf};
-ghost use Rattle.models.specs.Model.{OfCase, Fixed, Awake, Moves};
+ghost use Rattle.models.specs.Model.{OfCase, Fixed, Awake};
 use crate::Model;
 use crate::NO_SOFTNESS;
 use crate::base::POST;
 use crate::base::joint_base;
 use crate::body::fixed_body;
-use crate::body::fixed_state;
-use crate::body::moving;
 use crate::body::slab;
 use math_functions::types::TRANSFORM_IDENTITY;
 use math_functions::types::VEC3_ZERO;
@@ -72,13 +70,11 @@ fn hinge_joint(leaf: u8) -> JointSim
 
 // The post stands fast, and the leaf is at an index of the awake set.
 pub fn door(leaf: u8) -> Model
-    ensures { λ r. ⌜ OfCase 0 r × Fixed (r .«body_a») × Awake (pos leaf) (r .«body_b») × Moves (r .«state_b») ⌝ }
+    ensures { λ r. ⌜ OfCase 0 r × Fixed (r .«body_a») × Awake (pos leaf) (r .«body_b») ⌝ }
 {
     Model {
         joint: hinge_joint(leaf),
         body_a: fixed_body(),
         body_b: slab(leaf, 1.0),
-        state_a: fixed_state(),
-        state_b: moving(0.25),
     }
 }

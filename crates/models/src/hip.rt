@@ -3,11 +3,10 @@
 ghost use mathlib.Core.Path.{_≡_};
 ghost use lib.IntN.{pos};
 ghost use Rattle.records.specs.Joint.{caseOf};
-ghost use Rattle.models.specs.Model.{OfCase, Awake, Moves};
+ghost use Rattle.models.specs.Model.{OfCase, Awake};
 use crate::Model;
 use crate::NO_SOFTNESS;
 use crate::base::joint_base;
-use crate::body::moving;
 use crate::body::slab;
 use math_functions::types::MAT3_ZERO;
 use math_functions::types::Quat;
@@ -91,13 +90,11 @@ fn socket_joint(pelvis: u8, thigh: u8) -> JointSim
 
 // The pelvis and the thigh are at indices of the awake set.
 pub fn hip(pelvis: u8, thigh: u8) -> Model
-    ensures { λ r. ⌜ OfCase 1 r × Awake (pos pelvis) (r .«body_a») × Awake (pos thigh) (r .«body_b») × Moves (r .«state_a») × Moves (r .«state_b») ⌝ }
+    ensures { λ r. ⌜ OfCase 1 r × Awake (pos pelvis) (r .«body_a») × Awake (pos thigh) (r .«body_b») ⌝ }
 {
     Model {
         joint: socket_joint(pelvis, thigh),
         body_a: slab(pelvis, 2.0),
         body_b: slab(thigh, 3.0),
-        state_a: moving(0.5),
-        state_b: moving(0.75),
     }
 }

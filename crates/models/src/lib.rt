@@ -7,7 +7,6 @@ ghost use Rattle.revolute.specs.Revolute.{prepareRevoluteJoint};
 ghost use Rattle.spherical.specs.Spherical.{prepareSphericalJoint};
 ghost use Rattle.weld.specs.Weld.{prepareWeldJoint};
 use records::body::BodyRecord;
-use records::body::BodyState;
 use records::joint::JointSim;
 use records::joint::JointUnion;
 use revolute::prepare_revolute_joint;
@@ -22,15 +21,13 @@ pub mod door;
 pub mod hip;
 pub mod strut;
 
-// A joint before prepare, what prepare reads of its two bodies, and their states. The models promise
-// what a scene needs of them: the joint's case, which bodies are awake and at which index, and which
-// states the solver writes to. The other figures are an example's, and nothing rests on them.
+// A joint before prepare, and what prepare reads of its two bodies. The models promise what a scene
+// needs of them: the joint's case, and which bodies are awake and at which index. The other figures
+// are an example's, and nothing rests on them.
 pub struct Model {
     pub joint: JointSim,
     pub body_a: BodyRecord,
     pub body_b: BodyRecord,
-    pub state_a: BodyState,
-    pub state_b: BodyState,
 }
 
 pub const NO_SOFTNESS: Softness = Softness {

@@ -2,14 +2,12 @@
 ghost use mathlib.Core.Path.{_≡_};
 ghost use lib.IntN.{pos};
 ghost use Rattle.records.specs.Joint.{caseOf};
-ghost use Rattle.models.specs.Model.{OfCase, Fixed, Awake, Moves};
+ghost use Rattle.models.specs.Model.{OfCase, Fixed, Awake};
 use crate::Model;
 use crate::NO_SOFTNESS;
 use crate::base::POST;
 use crate::base::joint_base;
 use crate::body::fixed_body;
-use crate::body::fixed_state;
-use crate::body::moving;
 use crate::body::slab;
 use math_functions::types::MAT3_ZERO;
 use math_functions::types::TRANSFORM_IDENTITY;
@@ -62,13 +60,11 @@ fn weld_joint(strut: u8) -> JointSim
 
 // The pier stands fast, and the strut is at an index of the awake set.
 pub fn strut(strut: u8) -> Model
-    ensures { λ r. ⌜ OfCase 2 r × Fixed (r .«body_a») × Awake (pos strut) (r .«body_b») × Moves (r .«state_b») ⌝ }
+    ensures { λ r. ⌜ OfCase 2 r × Fixed (r .«body_a») × Awake (pos strut) (r .«body_b») ⌝ }
 {
     Model {
         joint: weld_joint(strut),
         body_a: fixed_body(),
         body_b: slab(strut, 1.0),
-        state_a: fixed_state(),
-        state_b: moving(0.5),
     }
 }
