@@ -137,11 +137,10 @@ unfoldable pub weldAngularRow : Bool → RelativeRotation → Bool → Float →
 weldAngularRow worked rotation useBias hertz s mass oldImpulse m v =
     cond (not worked) (row3 oldImpulse v) (angularRow (angularBias (isSoft useBias hertz) s rotation) mass oldImpulse m v)
 
--- document 01's point row, worked also when rotation is fixed. The velocity error is grouped, unlike revolute's and spherical's.
-unfoldable pub pointRow : Bool → Float → Softness → Vec3 → Vec3 → Vec3 → Vec3 → Vec3 → Vec3 → InvMasses → Velocities → Row3
-pointRow useBias hertz softness rA rB dcA dcB deltaCenter oldImpulse m v =
+-- document 01's point row, with its bias; worked also when rotation is fixed. The velocity error is grouped, unlike revolute's and spherical's.
+unfoldable pub pointRow : SoftBias3 → Vec3 → Vec3 → Vec3 → InvMasses → Velocities → Row3
+pointRow s rA rB oldImpulse m v =
     let cdot = pointCdotGrouped rA rB v in
-    let s = pointBias (isSoft useBias hertz) softness rA rB dcA dcB deltaCenter in
     let b = solve3 (pointMass m rA rB) (add cdot (s .bias)) in
     let impulse = softImpulse3 s b oldImpulse in
     row3 (add oldImpulse impulse) (applyPoint m rA rB impulse v)
@@ -157,7 +156,8 @@ unfoldable pub solvePoint : WeldJoint → BodyState → BodyState → Bool → I
 solvePoint j a b useBias m v =
     let rA = rotateVector (a .«delta_rotation») (j .«frame_a» .p) in
     let rB = rotateVector (b .«delta_rotation») (j .«frame_b» .p) in
-    pointRow useBias (j .«linear_hertz») (j .«linear_spring») rA rB (a .«delta_position») (b .«delta_position») (j .«delta_center») (j .«linear_impulse») m v
+    let s = pointBias (isSoft useBias (j .«linear_hertz»)) (j .«linear_spring») rA rB (a .«delta_position») (b .«delta_position») (j .«delta_center») in
+    pointRow s rA rB (j .«linear_impulse») m v
 
 -- document 01's rows of a weld solve, in order: angular, point
 unfoldable pub solveWeld : JointBase → WeldJoint → BodyState → BodyState → Bool → WeldSolved

@@ -4,7 +4,6 @@ ghost use Rattle.weld.specs.Weld as D;
 use constraint::angular::Row3;
 use constraint::angular::angular_row;
 use constraint::point::add_mass;
-use constraint::point::point_bias;
 use constraint::point::point_cdot_grouped;
 use constraint::rotation::RelativeRotation;
 use constraint::soft::RIGID3;
@@ -73,25 +72,18 @@ pub fn weld_angular_row(
     angular_row(s, mass, old_impulse, m, v)
 }
 
-// The linear constraint, where r_a and r_b reach from the centres to the anchors.
+// The linear constraint with its bias s, where r_a and r_b reach from the centres to the anchors.
 pub fn point_row(
-    use_bias: bool,
-    hertz: f32,
-    softness: Softness,
+    s: SoftBias3,
     r_a: Vec3,
     r_b: Vec3,
-    dc_a: Vec3,
-    dc_b: Vec3,
-    delta_center: Vec3,
     old_impulse: Vec3,
     m: InvMasses,
     v: Velocities,
 ) -> Row3
-    ensures { λ r. ⌜ r ≡ D.pointRow «use_bias» hertz softness «r_a» «r_b» «dc_a» «dc_b» «delta_center» «old_impulse» m v ⌝ }
+    ensures { λ r. ⌜ r ≡ D.pointRow s «r_a» «r_b» «old_impulse» m v ⌝ }
 {
     let cdot = point_cdot_grouped(r_a, r_b, v);
-    let soft = is_soft(use_bias, hertz);
-    let s = point_bias(soft, softness, r_a, r_b, dc_a, dc_b, delta_center);
     let s_a = skew(r_a);
     let s_b = skew(r_b);
     let k_a = mul_mm(s_a, mul_mm(m.i_a, s_a));

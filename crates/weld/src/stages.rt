@@ -1,14 +1,18 @@
 // The stages of the weld joint by value: prepare, warm start, and solve, which works the rows.
 ghost use mathlib.Core.Path.{_≡_};
+ghost use Rattle.constraint.specs.Point as Point;
 ghost use Rattle.weld.specs.Weld as D;
+use crate::rows::is_soft;
 use crate::rows::point_row;
 use crate::rows::weld_angular_row;
 use constraint::angular::Row3;
+use constraint::point::point_bias;
 use constraint::prepare::awake_index;
 use constraint::prepare::prepare_base;
 use constraint::prepare::prepare_frame;
 use constraint::rotation::RelativeRotation;
 use constraint::rotation::same_polarity;
+use constraint::soft::SoftBias3;
 use constraint::velocity::InvMasses;
 use constraint::velocity::Velocities;
 use constraint::velocity::apply_warm;
@@ -21,6 +25,7 @@ use math_functions::quat::mul_quat;
 use math_functions::quat::rotate_vector;
 use math_functions::transform::sub_pos;
 use math_functions::types::VEC3_ZERO;
+use math_functions::types::Vec3;
 use records::body::BodyRecord;
 use records::body::BodyState;
 use records::joint::JointBase;
@@ -137,34 +142,30 @@ pub fn solve_angular(
     )
 }
 
-// The point row at the fields of the joint and the states.
-pub fn solve_point(
+// The bias of the point row at the fields of the joint and the states.
+fn solve_bias(
     joint: WeldJoint,
+    r_a: Vec3,
+    r_b: Vec3,
     state_a: BodyState,
     state_b: BodyState,
     use_bias: bool,
-    m: InvMasses,
-    v: Velocities,
-) -> Row3
-    ensures { λ r. ⌜ r ≡ D.solvePoint joint «state_a» «state_b» «use_bias» m v ⌝ }
+) -> SoftBias3
+    ensures { λ r. ⌜ r ≡ Point.pointBias (D.isSoft «use_bias» (joint .«linear_hertz»)) (joint .«linear_spring») «r_a» «r_b» («state_a» .«delta_position») («state_b» .«delta_position») (joint .«delta_center») ⌝ }
 {
-    let r_a = rotate_vector(state_a.delta_rotation, joint.frame_a.p);
-    let r_b = rotate_vector(state_b.delta_rotation, joint.frame_b.p);
-    point_row(
-        use_bias,
-        joint.linear_hertz,
+    point_bias(
+        is_soft(use_bias, joint.linear_hertz),
         joint.linear_spring,
         r_a,
         r_b,
         state_a.delta_position,
         state_b.delta_position,
         joint.delta_center,
-        joint.linear_impulse,
-        m,
-        v,
     )
 }
 
+// The anchors and the point row's bias wait for no velocity: taken first, they are there when the
+// angular row is done.
 pub fn solve_weld(
     base: JointBase,
     mut joint: WeldJoint,
@@ -176,8 +177,11 @@ pub fn solve_weld(
 {
     let m = inv_masses_of(base);
     let v = velocities_of(state_a, state_b);
+    let r_a = rotate_vector(state_a.delta_rotation, joint.frame_a.p);
+    let r_b = rotate_vector(state_b.delta_rotation, joint.frame_b.p);
+    let bias = solve_bias(joint, r_a, r_b, state_a, state_b, use_bias);
     let angular = solve_angular(base.fixed_rotation, joint, state_a, state_b, use_bias, m, v);
-    let point = solve_point(joint, state_a, state_b, use_bias, m, angular.velocities);
+    let point = point_row(bias, r_a, r_b, joint.linear_impulse, m, angular.velocities);
 
     let linear_impulse = point.impulse;
     let angular_impulse = angular.impulse;
