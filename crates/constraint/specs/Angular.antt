@@ -2,11 +2,9 @@
 use mathlib.Core.Bool.{Bool, not, cond, _&&_}
 use lib.Ieee.{Float}
 use Rattle.math_functions.specs.declared.types.Vec3.{Vec3}
-use Rattle.math_functions.specs.declared.types.Quat.{Quat}
 use Rattle.math_functions.specs.declared.types.Matrix3.{Matrix3}
 use Rattle.math_functions.specs.Float.{_⊖_}
 use Rattle.math_functions.specs.Vector.{add, sub, dot}
-use Rattle.math_functions.specs.Quat.{getTwistAngle}
 use Rattle.math_functions.specs.Matrix.{mulMv}
 use Rattle.solver.specs.declared.Softness.{Softness}
 use Rattle.constraint.specs.declared.velocity.Velocities.{Velocities}
@@ -17,7 +15,7 @@ use Rattle.constraint.specs.declared.angular.AxialRow.{AxialRow}
 use Rattle.constraint.specs.declared.angular.Row3.{Row3}
 use Rattle.constraint.specs.declared.angular.LimitRows.{LimitRows}
 use Rattle.constraint.specs.Velocity.{applyAxial, applyAxialFlipped, applyAngular}
-use Rattle.constraint.specs.Soft.{limitBias, limitSum, limitImpulse, softImpulse3}
+use Rattle.constraint.specs.Soft.{limitBias, limitImpulse, softImpulse3}
 
 abbrev pub axialRow : Float → Velocities → AxialRow
 axialRow impulse velocities = record { impulse = impulse; velocities = velocities }
@@ -31,10 +29,6 @@ limitRows lowerImpulse upperImpulse velocities = record { «lower_impulse» = lo
 -- a row with a switch is worked if that is on and rotation is not fixed
 unfoldable pub isWorked : Bool → Bool → Bool
 isWorked enabled fixedRotation = enabled && not fixedRotation
-
--- the sum of a lower limit's row, which `lowerLimitRow` keeps from falling below zero
-unfoldable pub lowerLimitSum : SoftBias → Float → Vec3 → Float → Velocities → Float
-lowerLimitSum s mass axis oldImpulse v = limitSum s mass (dot (sub (v .«w_b») (v .«w_a»)) axis) oldImpulse
 
 -- revolute's lower limit, spherical's lower twist limit
 unfoldable pub lowerLimitRow : SoftBias → Float → Vec3 → Float → InvMasses → Velocities → AxialRow
@@ -58,9 +52,8 @@ angularRow s mass oldImpulse m v =
     row3 (add oldImpulse impulse) (applyAngular m impulse v)
 
 -- revolute's limit, spherical's twist limit: the lower row, then the upper row, both at the twist angle of the start
-unfoldable pub twistLimitRows : Bool → Quat → Float → Float → Softness → Float → Bool → Float → Vec3 → Float → Float → InvMasses → Velocities → LimitRows
-twistLimitRows worked relQ lowerAngle upperAngle s invH useBias mass axis oldLower oldUpper m v =
-    let angle = getTwistAngle relQ in
+unfoldable pub twistLimitRows : Bool → Float → Float → Float → Softness → Float → Bool → Float → Vec3 → Float → Float → InvMasses → Velocities → LimitRows
+twistLimitRows worked angle lowerAngle upperAngle s invH useBias mass axis oldLower oldUpper m v =
     let lower = lowerLimitRow (limitBias (angle ⊖ lowerAngle) s invH useBias) mass axis oldLower m v in
     let upper = upperLimitRow (limitBias (upperAngle ⊖ angle) s invH useBias) mass axis oldUpper m (lower .velocities) in
     cond (not worked) (limitRows oldLower oldUpper v) (limitRows (lower .impulse) (upper .impulse) (upper .velocities))

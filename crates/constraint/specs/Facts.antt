@@ -6,7 +6,6 @@ use Prim.Native.Nat.{ℕ}
 use lib.Ieee as Ieee
 use lib.Ieee.{Float}
 use Rattle.math_functions.specs.declared.types.Vec3.{Vec3}
-use Rattle.math_functions.specs.declared.types.Quat.{Quat}
 use Rattle.math_functions.specs.Float.{lt, gt, eq, zero}
 use Rattle.math_functions.specs.Scalar.{maxFloat}
 use Rattle.solver.specs.declared.Softness.{Softness}
@@ -48,12 +47,12 @@ unfolding isWorked
 worked on free = rw (on, free)
 
 -- a worked pair of limit rows
-module _ (relQ : Quat) (lowerAngle upperAngle : Float) (s : Softness) (invH : Float) (useBias : Bool) (mass : Float) (axis : Vec3) (oldLower oldUpper : Float) (m : InvMasses) (v : Velocities) where
-  pub twist-lower-nonNegative : NonNegative (twistLimitRows true relQ lowerAngle upperAngle s invH useBias mass axis oldLower oldUpper m v .«lower_impulse»)
+module _ (angle lowerAngle upperAngle : Float) (s : Softness) (invH : Float) (useBias : Bool) (mass : Float) (axis : Vec3) (oldLower oldUpper : Float) (m : InvMasses) (v : Velocities) where
+  pub twist-lower-nonNegative : NonNegative (twistLimitRows true angle lowerAngle upperAngle s invH useBias mass axis oldLower oldUpper m v .«lower_impulse»)
   unfolding twistLimitRows
   twist-lower-nonNegative = lowerLimitRow-nonNegative _ _ _ _ _ _
 
-  pub twist-upper-nonNegative : NonNegative (twistLimitRows true relQ lowerAngle upperAngle s invH useBias mass axis oldLower oldUpper m v .«upper_impulse»)
+  pub twist-upper-nonNegative : NonNegative (twistLimitRows true angle lowerAngle upperAngle s invH useBias mass axis oldLower oldUpper m v .«upper_impulse»)
   unfolding twistLimitRows
   twist-upper-nonNegative = upperLimitRow-nonNegative _ _ _ _ _ _
 

@@ -5,4 +5,5 @@ pub mod Angular
 pub mod Point
 pub mod Prepare
 pub mod Answer
+pub mod Steps
 pub mod Facts

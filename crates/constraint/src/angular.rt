@@ -1,6 +1,7 @@
 // Angular rows: the limits about an axis, and the row of three dimensions with its softness.
 ghost use mathlib.Core.Path.{_≡_};
 ghost use Rattle.constraint.specs.Angular as D;
+ghost use Rattle.constraint.specs.Steps as Steps;
 use crate::soft::SoftBias;
 use crate::soft::SoftBias3;
 use crate::soft::limit_impulse;
@@ -45,7 +46,7 @@ pub fn is_worked(enabled: bool, fixed_rotation: bool) -> bool
 
 // The sum of a lower limit's row, whose impulse turns B up about the axis.
 pub fn lower_limit_sum(s: SoftBias, mass: f32, axis: Vec3, old_impulse: f32, v: Velocities) -> f32
-    ensures { λ r. ⌜ r ≡ D.lowerLimitSum s mass axis «old_impulse» v ⌝ }
+    ensures { λ r. ⌜ r ≡ Steps.lowerLimitSum s mass axis «old_impulse» v ⌝ }
 {
     let cdot = dot(sub(v.w_b, v.w_a), axis);
     limit_sum(s, mass, cdot, old_impulse)

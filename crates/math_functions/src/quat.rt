@@ -120,7 +120,7 @@ pub fn delta_quat_to_rotation(q: Quat, target: Quat) -> Vec3
     ensures { λ r. ⌜ r ≡ D.deltaQuatToRotation q target ⌝ }
 {
     // The difference is taken in the branch too, so that the compiler keeps the branch, which the
-    // processor foresees. A choice between two values would have to wait for the dot product.
+    // processor predicts. A choice between two values would have to wait for the dot product.
     let mut s = q;
     let mut diff = sub_quat(target, q);
     if dot_quat(q, target) < 0.0 {

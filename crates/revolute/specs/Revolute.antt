@@ -140,7 +140,7 @@ solveMotor fixedRotation j h m v =
 
 unfoldable pub solveLimits : Bool → Softness → RevoluteJoint → Quat → Float → Bool → InvMasses → Velocities → LimitRows
 solveLimits fixedRotation softness j relQ invH useBias m v =
-    twistLimitRows (isWorked (j .«enable_limit») fixedRotation) relQ (j .«lower_angle») (j .«upper_angle») softness invH useBias (j .«axial_mass») (j .«rotation_axis_z») (j .«lower_impulse») (j .«upper_impulse») m v
+    twistLimitRows (isWorked (j .«enable_limit») fixedRotation) (getTwistAngle relQ) (j .«lower_angle») (j .«upper_angle») softness invH useBias (j .«axial_mass») (j .«rotation_axis_z») (j .«lower_impulse») (j .«upper_impulse») m v
 
 unfoldable pub solvePerp : Bool → Softness → RevoluteJoint → RelativeRotation → Bool → InvMasses → Velocities → PerpRow
 solvePerp fixedRotation softness j rotation useBias m v =

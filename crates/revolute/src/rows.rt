@@ -145,10 +145,10 @@ pub fn perp_bias(use_bias: bool, softness: Softness, rel_q: Quat) -> SoftBias2
 pub fn perp_mass(inv_inertia_sum: Matrix3, axis_x: Vec3, axis_y: Vec3) -> Mat2
     ensures { λ r. ⌜ r ≡ D.perpMass «inv_inertia_sum» «axis_x» «axis_y» ⌝ }
 {
-    let turned_y = mul_mv(inv_inertia_sum, axis_y);
+    let inv_inertia_y = mul_mv(inv_inertia_sum, axis_y);
     let kxx = dot(axis_x, mul_mv(inv_inertia_sum, axis_x));
-    let kyy = dot(axis_y, turned_y);
-    let kxy = dot(axis_x, turned_y);
+    let kyy = dot(axis_y, inv_inertia_y);
+    let kxy = dot(axis_x, inv_inertia_y);
     Mat2 {
         cx: Vec2 { x: kxx, y: kxy },
         cy: Vec2 { x: kxy, y: kyy },

@@ -257,7 +257,7 @@ pub fn solve_limits(
     let lower_bias = limit_bias(angle - joint.lower_angle, softness, inv_h, use_bias);
     let old_impulse = joint.lower_impulse;
     let sum = lower_limit_sum(lower_bias, mass, axis, old_impulse, v);
-    // A limit that does not push is passed by a branch, which the processor foresees, so that what
+    // A limit that does not push is passed by a branch, which the processor predicts, so that what
     // follows need not wait for the sum.
     if sum > 0.0 {
         let v = apply_axial(m, sum - old_impulse, axis, v);

@@ -7,7 +7,7 @@ use lib.IntN.{pos}
 use lib.ListN.{replicate}
 use Rattle.math_functions.specs.Float.{lit, zero, one}
 use Rattle.math_functions.specs.Types.{vec3, transform, vec3Zero, quatIdentity, mat3Zero}
-use Rattle.solver.specs.Solver.{softness}
+use Rattle.solver.specs.Solver.{noSoftness}
 use Rattle.records.specs.declared.body.BodyState.{BodyState}
 use Rattle.records.specs.declared.joint.JointType.the-variants as JointType
 use Rattle.records.specs.declared.joint.JointUnion.the-variants.{Weld}
@@ -41,7 +41,7 @@ weld a b =
             «inv_i_b» = mat3Zero;
             «constraint_hertz» = zero;
             «constraint_damping_ratio» = zero;
-            «constraint_softness» = softness zero zero zero;
+            «constraint_softness» = noSoftness;
             «force_threshold» = zero;
             «torque_threshold» = zero;
             «fixed_rotation» = true;
@@ -52,8 +52,8 @@ weld a b =
             «linear_damping_ratio» = zero;
             «angular_hertz» = zero;
             «angular_damping_ratio» = zero;
-            «linear_spring» = softness zero zero zero;
-            «angular_spring» = softness zero zero zero;
+            «linear_spring» = noSoftness;
+            «angular_spring» = noSoftness;
             «linear_impulse» = vec3Zero;
             «angular_impulse» = vec3Zero;
             «index_a» = pos a;
@@ -85,8 +85,8 @@ chain flags =
             h = zero;
             «inv_h» = zero;
             «sub_step_count» = pos 0;
-            «contact_softness» = softness zero zero zero;
-            «static_softness» = softness zero zero zero;
+            «contact_softness» = noSoftness;
+            «static_softness» = noSoftness;
             «restitution_threshold» = zero;
             «max_linear_velocity» = zero;
             «contact_speed» = zero;

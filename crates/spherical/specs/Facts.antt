@@ -6,7 +6,6 @@ use Prim.Native.Nat.{ℕ}
 use lib.Ieee.{Float}
 use lib.IntN.{ℤ}
 use Rattle.math_functions.specs.declared.types.Vec3.{Vec3}
-use Rattle.math_functions.specs.declared.types.Quat.{Quat}
 use Rattle.solver.specs.declared.Softness.{Softness}
 use Rattle.solver.specs.declared.StepContext.{StepContext}
 use Rattle.records.specs.declared.body.BodyRecord.{BodyRecord}
@@ -28,9 +27,9 @@ use Rattle.spherical.specs.Spherical.{withImpulses, coneRow, sphericalSo
 
 -- ---- limits
 
-pub coneRow-nonNegative : (relQ : Quat) (coneAngle : Float) (s : Softness) (invH : Float) (useBias : Bool) (mass : Float) (axis : Vec3) (old : Float) (m : InvMasses) (v : Velocities) → NonNegative (coneRow true relQ coneAngle s invH useBias mass axis old m v .impulse)
+pub coneRow-nonNegative : (swingAngle coneAngle : Float) (s : Softness) (invH : Float) (useBias : Bool) (mass : Float) (axis : Vec3) (old : Float) (m : InvMasses) (v : Velocities) → NonNegative (coneRow true swingAngle coneAngle s invH useBias mass axis old m v .impulse)
 unfolding coneRow
-coneRow-nonNegative relQ coneAngle s invH useBias mass axis old m v = upperLimitRow-nonNegative _ _ _ _ _ _
+coneRow-nonNegative swingAngle coneAngle s invH useBias mass axis old m v = upperLimitRow-nonNegative _ _ _ _ _ _
 
 -- what is said of the limits: `next` is the joint `j` after a solve
 pub record LimitsNonNegative (j next : SphericalJoint) : Type 0 where

@@ -11,7 +11,7 @@ use Rattle.math_functions.specs.declared.types.Matrix3.{Matrix3}
 use Rattle.math_functions.specs.Float.{_⊕_, _⊖_, _⊗_, _⊘_, gt, zero}
 use Rattle.math_functions.specs.Types.{vec3Zero, vec3AxisZ, mat3Zero}
 use Rattle.math_functions.specs.Vector.{add, sub, neg, length, normalize, mulAdd, mulSub, mulSv, cross}
-use Rattle.math_functions.specs.Quat.{rotateVector, invMulQuat, deltaQuatToRotation, getSwingAngle}
+use Rattle.math_functions.specs.Quat.{rotateVector, invMulQuat, deltaQuatToRotation, getTwistAngle, getSwingAngle}
 use Rattle.math_functions.specs.Matrix.{addMm, mulMv, invertMatrix, solve3}
 use Rattle.math_functions.specs.Transform.{subPos}
 use Rattle.solver.specs.declared.Softness.{Softness}
@@ -27,6 +27,7 @@ use Rattle.records.specs.Joint.{asSpherical}
 use Rattle.constraint.specs.declared.velocity.Velocities.{Velocities}
 use Rattle.constraint.specs.declared.velocity.InvMasses.{InvMasses}
 use Rattle.constraint.specs.declared.rotation.RelativeRotation.{RelativeRotation}
+use Rattle.constraint.specs.declared.soft.SoftBias3.{SoftBias3}
 use Rattle.constraint.specs.declared.angular.AxialRow.{AxialRow}
 use Rattle.constraint.specs.declared.angular.Row3.{Row3}
 use Rattle.constraint.specs.declared.answer.Prepared.{Prepared}
@@ -101,18 +102,17 @@ motorRow worked motorVelocity maxMotorTorque h rotationMass oldImpulse m v =
     cond (not worked) (row3 oldImpulse v) (row3 impulse (applyAngular m (sub impulse oldImpulse) v))
 
 -- Cone: an upper limit, about the swing axis. The gap is the cone's angle less the swing angle.
-unfoldable pub coneRow : Bool → Quat → Float → Softness → Float → Bool → Float → Vec3 → Float → InvMasses → Velocities → AxialRow
-coneRow worked relQ coneAngle s invH useBias swingMass swingAxis oldImpulse m v =
-    let c = coneAngle ⊖ getSwingAngle relQ in
+unfoldable pub coneRow : Bool → Float → Float → Softness → Float → Bool → Float → Vec3 → Float → InvMasses → Velocities → AxialRow
+coneRow worked swingAngle coneAngle s invH useBias swingMass swingAxis oldImpulse m v =
+    let c = coneAngle ⊖ swingAngle in
     cond (not worked) (axialRow oldImpulse v) (upperLimitRow (limitBias c s invH useBias) swingMass swingAxis oldImpulse m v)
 
--- Point: worked with fixed rotation too; softened where the call has bias.
-unfoldable pub pointRow : Bool → Softness → Vec3 → Vec3 → Vec3 → Vec3 → Vec3 → Vec3 → InvMasses → Velocities → Row3
-pointRow useBias s rA rB dcA dcB deltaCenter oldImpulse m v =
+-- Point, with its bias: worked with fixed rotation too.
+unfoldable pub pointRow : SoftBias3 → Vec3 → Vec3 → Vec3 → InvMasses → Velocities → Row3
+pointRow s rA rB oldImpulse m v =
     let cdot = pointCdot rA rB v in
-    let soft = pointBias useBias s rA rB dcA dcB deltaCenter in
-    let b = solve3 (pointMass m rA rB) (add cdot (soft .bias)) in
-    let impulse = softImpulse3 soft b oldImpulse in
+    let b = solve3 (pointMass m rA rB) (add cdot (s .bias)) in
+    let impulse = softImpulse3 s b oldImpulse in
     row3 (add oldImpulse impulse) (applyPoint m rA rB impulse v)
 
 -- ---- prepare
@@ -236,16 +236,15 @@ solveSpherical base j h invH stateA stateB useBias =
     motorRow (isWorked (j .«enable_motor») fixedRotation) (j .«motor_velocity») (j .«max_motor_torque») h
     (j .«rotation_mass») (j .«motor_impulse») m (spring .velocities) in
     let twist =
-    twistLimitRows (isWorked (j .«enable_twist_limit») fixedRotation) relQ (j .«lower_twist_angle») (j .«upper_twist_angle») s invH useBias
+    twistLimitRows (isWorked (j .«enable_twist_limit») fixedRotation) (getTwistAngle relQ) (j .«lower_twist_angle») (j .«upper_twist_angle») s invH useBias
     (j .«twist_mass») (j .«twist_jacobian») (j .«lower_twist_impulse») (j .«upper_twist_impulse») m (motor .velocities) in
     let cone =
-    coneRow (isWorked (j .«enable_cone_limit») fixedRotation) relQ (j .«cone_angle») s invH useBias
+    coneRow (isWorked (j .«enable_cone_limit») fixedRotation) (getSwingAngle relQ) (j .«cone_angle») s invH useBias
     (j .«swing_mass») (j .«swing_axis») (j .«swing_impulse») m (twist .velocities) in
     let rA = rotateVector (stateA .«delta_rotation») (j .«frame_a» .p) in
     let rB = rotateVector (stateB .«delta_rotation») (j .«frame_b» .p) in
-    let point =
-    pointRow useBias s rA rB (stateA .«delta_position») (stateB .«delta_position») (j .«delta_center»)
-    (j .«linear_impulse») m (cone .velocities) in
+    let bias = pointBias useBias s rA rB (stateA .«delta_position») (stateB .«delta_position») (j .«delta_center») in
+    let point = pointRow bias rA rB (j .«linear_impulse») m (cone .velocities) in
     sphericalSolved
     (withImpulses j (point .impulse) (spring .impulse) (motor .impulse) (twist .«lower_impulse») (twist .«upper_impulse») (cone .impulse))
     (point .velocities)

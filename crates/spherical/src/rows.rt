@@ -145,7 +145,7 @@ pub fn cone_row(
     m: InvMasses,
     v: Velocities,
 ) -> AxialRow
-    ensures { λ r. ⌜ r ≡ Steps.coneRowAt worked «swing_angle» «cone_angle» softness «inv_h» «use_bias» mass axis «old_impulse» m v ⌝ }
+    ensures { λ r. ⌜ r ≡ D.coneRow worked «swing_angle» «cone_angle» softness «inv_h» «use_bias» mass axis «old_impulse» m v ⌝ }
 {
     if !worked {
         return AxialRow {
@@ -167,7 +167,7 @@ pub fn point_row(
     m: InvMasses,
     v: Velocities,
 ) -> Row3
-    ensures { λ r. ⌜ r ≡ Steps.pointRowAt s «r_a» «r_b» «old_impulse» m v ⌝ }
+    ensures { λ r. ⌜ r ≡ D.pointRow s «r_a» «r_b» «old_impulse» m v ⌝ }
 {
     let cdot = point_cdot(r_a, r_b, v);
     let s_a = skew(r_a);

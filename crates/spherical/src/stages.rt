@@ -4,7 +4,6 @@ ghost use Rattle.constraint.specs.Angular as Angular;
 ghost use Rattle.constraint.specs.Point as Point;
 ghost use Rattle.constraint.specs.Rotation as Rotation;
 ghost use Rattle.spherical.specs.Spherical as D;
-ghost use Rattle.spherical.specs.Steps as Steps;
 use crate::rows::cone_row;
 use crate::rows::motor_row;
 use crate::rows::point_row;
@@ -126,7 +125,7 @@ fn solve_twist(
     m: InvMasses,
     v: Velocities,
 ) -> LimitRows
-    ensures { λ r. ⌜ r ≡ Steps.twistRowsAt (Angular.isWorked (joint .«enable_twist_limit») (base .«fixed_rotation»)) angle (joint .«lower_twist_angle») (joint .«upper_twist_angle») (base .«constraint_softness») «inv_h» «use_bias» (joint .«twist_mass») (joint .«twist_jacobian») (joint .«lower_twist_impulse») (joint .«upper_twist_impulse») m v ⌝ }
+    ensures { λ r. ⌜ r ≡ Angular.twistLimitRows (Angular.isWorked (joint .«enable_twist_limit») (base .«fixed_rotation»)) angle (joint .«lower_twist_angle») (joint .«upper_twist_angle») (base .«constraint_softness») «inv_h» «use_bias» (joint .«twist_mass») (joint .«twist_jacobian») (joint .«lower_twist_impulse») (joint .«upper_twist_impulse») m v ⌝ }
 {
     if !is_worked(joint.enable_twist_limit, base.fixed_rotation) {
         return LimitRows {
@@ -141,7 +140,7 @@ fn solve_twist(
     let lower_bias = limit_bias(angle - joint.lower_twist_angle, softness, inv_h, use_bias);
     let old_impulse = joint.lower_twist_impulse;
     let sum = lower_limit_sum(lower_bias, mass, axis, old_impulse, v);
-    // A limit that does not push is passed by a branch, which the processor foresees, so that what
+    // A limit that does not push is passed by a branch, which the processor predicts, so that what
     // follows need not wait for the sum.
     if sum > 0.0 {
         let v = apply_axial(m, sum - old_impulse, axis, v);
@@ -164,7 +163,7 @@ fn solve_cone(
     m: InvMasses,
     v: Velocities,
 ) -> AxialRow
-    ensures { λ r. ⌜ r ≡ Steps.coneRowAt (Angular.isWorked (joint .«enable_cone_limit») (base .«fixed_rotation»)) «swing_angle» (joint .«cone_angle») (base .«constraint_softness») «inv_h» «use_bias» (joint .«swing_mass») (joint .«swing_axis») (joint .«swing_impulse») m v ⌝ }
+    ensures { λ r. ⌜ r ≡ D.coneRow (Angular.isWorked (joint .«enable_cone_limit») (base .«fixed_rotation»)) «swing_angle» (joint .«cone_angle») (base .«constraint_softness») «inv_h» «use_bias» (joint .«swing_mass») (joint .«swing_axis») (joint .«swing_impulse») m v ⌝ }
 {
     cone_row(
         is_worked(joint.enable_cone_limit, base.fixed_rotation),

@@ -1,4 +1,4 @@
-use Rattle.constraint.specs.Angular.{lowerLimitSum}
+use Rattle.constraint.specs.Steps.{lowerLimitSum}
 use Rattle.constraint.proofs.angular.lower_limit_sum.Statement.{statement}
 use Rattle.constraint.proofs.angular.lower_limit_sum.Tie as tie
 

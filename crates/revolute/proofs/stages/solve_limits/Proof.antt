@@ -1,6 +1,7 @@
 use Rattle.math_functions.specs.Scalar.{maxFloat}
 use Rattle.constraint.specs.Soft.{limitImpulse}
-use Rattle.constraint.specs.Angular.{lowerLimitSum, lowerLimitRow, twistLimitRows}
+use Rattle.constraint.specs.Angular.{lowerLimitRow, twistLimitRows}
+use Rattle.constraint.specs.Steps.{lowerLimitSum}
 use Rattle.revolute.specs.Revolute.{solveLimits}
 use Rattle.revolute.proofs.stages.solve_limits.Statement.{statement}
 use Rattle.revolute.proofs.stages.solve_limits.Tie as tie

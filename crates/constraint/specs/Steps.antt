@@ -1,0 +1,11 @@
+-- Steps of the code that the Rust does not have. No definition that is written from the Rust cites them. Definitions only. Assumes nothing.
+use lib.Ieee.{Float}
+use Rattle.math_functions.specs.declared.types.Vec3.{Vec3}
+use Rattle.math_functions.specs.Vector.{sub, dot}
+use Rattle.constraint.specs.declared.velocity.Velocities.{Velocities}
+use Rattle.constraint.specs.declared.soft.SoftBias.{SoftBias}
+use Rattle.constraint.specs.Soft.{limitSum}
+
+-- the sum of a lower limit's row, which `lowerLimitRow` keeps from falling below zero
+unfoldable pub lowerLimitSum : SoftBias → Float → Vec3 → Float → Velocities → Float
+lowerLimitSum s mass axis oldImpulse v = limitSum s mass (dot (sub (v .«w_b») (v .«w_a»)) axis) oldImpulse
