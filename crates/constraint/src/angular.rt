@@ -52,6 +52,31 @@ pub fn lower_limit_sum(s: SoftBias, mass: f32, axis: Vec3, old_impulse: f32, v: 
     limit_sum(s, mass, cdot, old_impulse)
 }
 
+// The sum of an upper limit's row, or of the cone's: sign flipped on cdot.
+pub fn upper_limit_sum(s: SoftBias, mass: f32, axis: Vec3, old_impulse: f32, v: Velocities) -> f32
+    ensures { λ r. ⌜ r ≡ Steps.upperLimitSum s mass axis «old_impulse» v ⌝ }
+{
+    let cdot = dot(sub(v.w_a, v.w_b), axis);
+    limit_sum(s, mass, cdot, old_impulse)
+}
+
+// Such a row that brings its impulse to a value: sign flipped on what is applied.
+pub fn upper_row_to(
+    impulse: f32,
+    old_impulse: f32,
+    axis: Vec3,
+    m: InvMasses,
+    v: Velocities,
+) -> AxialRow
+    ensures { λ r. ⌜ r ≡ Steps.upperRowTo impulse «old_impulse» axis m v ⌝ }
+{
+    let velocities = apply_axial_flipped(m, impulse - old_impulse, axis, v);
+    AxialRow {
+        impulse,
+        velocities,
+    }
+}
+
 // An upper limit or a cone: sign flipped on cdot and on the applied impulse.
 pub fn upper_limit_row(
     s: SoftBias,

@@ -6,7 +6,8 @@ ghost use Rattle.spherical.specs.Steps as Steps;
 use constraint::angular::AxialRow;
 use constraint::angular::Row3;
 use constraint::angular::angular_row;
-use constraint::angular::upper_limit_row;
+use constraint::angular::upper_limit_sum;
+use constraint::angular::upper_row_to;
 use constraint::point::add_mass;
 use constraint::point::point_cdot;
 use constraint::rotation::RelativeRotation;
@@ -155,7 +156,12 @@ pub fn cone_row(
     }
     let c = cone_angle - swing_angle;
     let s = limit_bias(c, softness, inv_h, use_bias);
-    upper_limit_row(s, mass, axis, old_impulse, m, v)
+    let sum = upper_limit_sum(s, mass, axis, old_impulse, v);
+    // a branch, as in the twist rows
+    if sum > 0.0 {
+        return upper_row_to(sum, old_impulse, axis, m, v);
+    }
+    upper_row_to(0.0, old_impulse, axis, m, v)
 }
 
 // The point row, with its bias s, holds the two anchors together.

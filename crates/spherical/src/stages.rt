@@ -1,4 +1,5 @@
 // The warm start and the solve of a spherical joint.
+ghost use mathlib.Core.Bool.{true};
 ghost use mathlib.Core.Path.{_≡_};
 ghost use Rattle.constraint.specs.Angular as Angular;
 ghost use Rattle.constraint.specs.Point as Point;
@@ -16,7 +17,8 @@ use constraint::angular::Row3;
 use constraint::angular::is_worked;
 use constraint::angular::limit_rows;
 use constraint::angular::lower_limit_sum;
-use constraint::angular::upper_limit_row;
+use constraint::angular::upper_limit_sum;
+use constraint::angular::upper_row_to;
 use constraint::point::point_bias;
 use constraint::rotation::RelativeRotation;
 use constraint::rotation::relative_rotation;
@@ -36,6 +38,7 @@ use math_functions::vector::mul_sub;
 use records::body::BodyState;
 use records::joint::JointBase;
 use records::joint::SphericalJoint;
+use solver::Softness;
 
 // What a solve leaves.
 pub struct SphericalSolved {
@@ -116,6 +119,43 @@ fn solve_motor(base: JointBase, joint: SphericalJoint, h: f32, m: InvMasses, v: 
     )
 }
 
+// The twist rows, where they are worked. A limit that does not push is passed by a branch, which the
+// processor predicts, so that what follows need not wait for the sum.
+fn twist_rows(
+    joint: SphericalJoint,
+    angle: f32,
+    softness: Softness,
+    inv_h: f32,
+    use_bias: bool,
+    m: InvMasses,
+    v: Velocities,
+) -> LimitRows
+    ensures { λ r. ⌜ r ≡ Angular.twistLimitRows true angle (joint .«lower_twist_angle») (joint .«upper_twist_angle») softness «inv_h» «use_bias» (joint .«twist_mass») (joint .«twist_jacobian») (joint .«lower_twist_impulse») (joint .«upper_twist_impulse») m v ⌝ }
+{
+    let mass = joint.twist_mass;
+    let axis = joint.twist_jacobian;
+    let old_lower = joint.lower_twist_impulse;
+    let old_upper = joint.upper_twist_impulse;
+    let lower_bias = limit_bias(angle - joint.lower_twist_angle, softness, inv_h, use_bias);
+    let lower = lower_limit_sum(lower_bias, mass, axis, old_lower, v);
+    if lower > 0.0 {
+        let v = apply_axial(m, lower - old_lower, axis, v);
+        let upper_bias = limit_bias(joint.upper_twist_angle - angle, softness, inv_h, use_bias);
+        let upper = upper_limit_sum(upper_bias, mass, axis, old_upper, v);
+        if upper > 0.0 {
+            return limit_rows(lower, upper_row_to(upper, old_upper, axis, m, v));
+        }
+        return limit_rows(lower, upper_row_to(0.0, old_upper, axis, m, v));
+    }
+    let v = apply_axial(m, 0.0 - old_lower, axis, v);
+    let upper_bias = limit_bias(joint.upper_twist_angle - angle, softness, inv_h, use_bias);
+    let upper = upper_limit_sum(upper_bias, mass, axis, old_upper, v);
+    if upper > 0.0 {
+        return limit_rows(0.0, upper_row_to(upper, old_upper, axis, m, v));
+    }
+    limit_rows(0.0, upper_row_to(0.0, old_upper, axis, m, v))
+}
+
 fn solve_twist(
     base: JointBase,
     joint: SphericalJoint,
@@ -134,24 +174,15 @@ fn solve_twist(
             velocities: v,
         };
     }
-    let softness = base.constraint_softness;
-    let mass = joint.twist_mass;
-    let axis = joint.twist_jacobian;
-    let lower_bias = limit_bias(angle - joint.lower_twist_angle, softness, inv_h, use_bias);
-    let old_impulse = joint.lower_twist_impulse;
-    let sum = lower_limit_sum(lower_bias, mass, axis, old_impulse, v);
-    // A limit that does not push is passed by a branch, which the processor predicts, so that what
-    // follows need not wait for the sum.
-    if sum > 0.0 {
-        let v = apply_axial(m, sum - old_impulse, axis, v);
-        let upper_bias = limit_bias(joint.upper_twist_angle - angle, softness, inv_h, use_bias);
-        let upper = upper_limit_row(upper_bias, mass, axis, joint.upper_twist_impulse, m, v);
-        return limit_rows(sum, upper);
-    }
-    let v = apply_axial(m, 0.0 - old_impulse, axis, v);
-    let upper_bias = limit_bias(joint.upper_twist_angle - angle, softness, inv_h, use_bias);
-    let upper = upper_limit_row(upper_bias, mass, axis, joint.upper_twist_impulse, m, v);
-    limit_rows(0.0, upper)
+    twist_rows(
+        joint,
+        angle,
+        base.constraint_softness,
+        inv_h,
+        use_bias,
+        m,
+        v,
+    )
 }
 
 fn solve_cone(

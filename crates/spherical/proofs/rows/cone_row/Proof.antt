@@ -1,4 +1,7 @@
+-- `rows::cone_row` equals its definition, by the cases of an upper limit's row (`Limits`). Assumes nothing.
+use mathlib.Core.Path.{_∙_}
 use Rattle.spherical.specs.Spherical.{coneRow}
+use Rattle.spherical.proofs.Limits.{upper-pushes, upper-rests}
 use Rattle.spherical.proofs.rows.cone_row.Statement.{statement}
 use Rattle.spherical.proofs.rows.cone_row.Tie as tie
 
@@ -8,7 +11,11 @@ returns c = rw (c .if1 .taken)
 
 returns-2 : tie.Need-returns-2
 unfolding coneRow
-returns-2 c = rw (← (c .before .limit-bias .ensures), ← (c .upper-limit-row .ensures), c .before .before .if1 .left)
+returns-2 c = rw (← (c .before .before .before .limit-bias .ensures), c .before .before .before .before .if1 .left) (c .upper-row-to .ensures ∙ upper-pushes _ _ _ _ _ _ _ (c .before .before .upper-limit-sum .ensures) (c .before .if2 .taken))
+
+returns-3 : tie.Need-returns-3
+unfolding coneRow
+returns-3 c = rw (← (c .before .before .before .limit-bias .ensures), c .before .before .before .before .if1 .left) (c .upper-row-to2 .ensures ∙ upper-rests _ _ _ _ _ _ _ (c .before .before .upper-limit-sum .ensures) (c .before .if2 .left))
 
 pub cone-row-spec : {M : Type 1} → statement M
-cone-row-spec = tie.close (tie.spec returns (λ c κs. tt) (λ c κs. tt) returns-2)
+cone-row-spec = tie.close (tie.spec returns (λ c κs. tt) (λ c κs. tt) (λ c κs. tt) returns-2 (λ c κs. tt) returns-3)

@@ -1,8 +1,5 @@
 -- `stages::solve_twist` equals the rows at the joint's fields. Assumes nothing.
-use Rattle.math_functions.specs.Scalar.{maxFloat}
-use Rattle.constraint.specs.Soft.{limitImpulse}
-use Rattle.constraint.specs.Angular.{lowerLimitRow, twistLimitRows}
-use Rattle.constraint.specs.Steps.{lowerLimitSum}
+use Rattle.constraint.specs.Angular.{twistLimitRows}
 use Rattle.spherical.proofs.stages.solve_twist.Statement.{statement}
 use Rattle.spherical.proofs.stages.solve_twist.Tie as tie
 
@@ -11,12 +8,8 @@ unfolding twistLimitRows
 returns c = rw (← (c .before .is-worked .ensures), c .if1 .taken)
 
 returns-2 : tie.Need-returns-2
-unfolding twistLimitRows lowerLimitRow lowerLimitSum limitImpulse maxFloat
-returns-2 c = rw (← (c .before .before .before .before .before .before .before .before .before .before .before .before .is-worked .ensures), ← (c .before .before .before .before .before .before .before .limit-bias .ensures), ← (c .before .before .before .before .before .before .lower-limit-sum .ensures), c .before .before .before .before .before .if2 .taken, ← (c .before .before .before .before .apply-axial .ensures), ← (c .before .before .limit-bias2 .ensures), ← (c .before .upper-limit-row .ensures), ← (c .limit-rows .ensures), c .before .before .before .before .before .before .before .before .before .before .before .if1 .left)
-
-returns-3 : tie.Need-returns-3
-unfolding twistLimitRows lowerLimitRow lowerLimitSum limitImpulse maxFloat
-returns-3 c = rw (← (c .before .before .before .before .before .before .before .before .before .before .before .before .is-worked .ensures), ← (c .before .before .before .before .before .before .before .limit-bias .ensures), ← (c .before .before .before .before .before .before .lower-limit-sum .ensures), c .before .before .before .before .before .if2 .left, ← (c .before .before .before .before .apply-axial2 .ensures), ← (c .before .before .limit-bias3 .ensures), ← (c .before .upper-limit-row2 .ensures), ← (c .limit-rows2 .ensures), c .before .before .before .before .before .before .before .before .before .before .before .if1 .left)
+unfolding twistLimitRows
+returns-2 c = rw (← (c .before .before .is-worked .ensures), c .before .if1 .left) (c .twist-rows .ensures)
 
 pub solve-twist-spec : {M : Type 1} → statement M
-solve-twist-spec = tie.close (tie.spec (λ c κs. tt) returns (λ c κs. tt) (λ c κs. tt) (λ c κs. tt) (λ c κs. tt) (λ c κs. tt) (λ c κs. tt) returns-2 (λ c κs. tt) (λ c κs. tt) (λ c κs. tt) (λ c κs. tt) returns-3)
+solve-twist-spec = tie.close (tie.spec (λ c κs. tt) returns (λ c κs. tt) returns-2)
