@@ -6,8 +6,8 @@ mod wall;
 
 use call_list::run_list;
 use libc::STDOUT_FILENO;
-use models::Model;
 use models::STEP;
+use models::body::moving;
 use models::door::door;
 use models::hip::hip;
 use models::prepare;
@@ -24,14 +24,9 @@ use wall::print_walls;
 // Each joint in turn, three rounds: warm starts, solves with bias, solves without.
 const ROUNDS: [u8; 18] = [0, 0, 1, 0, 2, 0, 0, 1, 1, 1, 2, 1, 0, 2, 1, 2, 2, 2];
 
-// Places for joints, none in use.
-pub fn no_joints() -> [JointSim; 32] {
-    let empty = empty_scene(STEP);
-    empty.joints
-}
-
-fn hinge() -> JointSim {
-    prepare(door(0), STEP)
+// The joint of a door whose leaf is body k, prepared.
+pub fn hinge(k: u8) -> JointSim {
+    prepare(door(k), STEP)
 }
 
 fn socket() -> JointSim {
@@ -42,40 +37,26 @@ fn weld() -> JointSim {
     prepare(strut(3), STEP)
 }
 
-fn joints() -> [JointSim; 32] {
-    let mut joints = no_joints();
-    joints[0] = hinge();
-    joints[1] = socket();
-    joints[2] = weld();
-    joints
-}
-
-fn state_a(model: Model) -> BodyState {
-    model.state_a
-}
-
-fn state_b(model: Model) -> BodyState {
-    model.state_b
-}
-
 // The door's leaf is body 0, pelvis and thigh are 1 and 2, and the strut is 3.
 fn bodies() -> [BodyState; 32] {
     let mut bodies = [IDENTITY_BODY_STATE; 32];
-    bodies[0] = state_b(door(0));
-    bodies[1] = state_a(hip(1, 2));
-    bodies[2] = state_b(hip(1, 2));
-    bodies[3] = state_b(strut(3));
+    bodies[0] = moving(0.25);
+    bodies[1] = moving(0.5);
+    bodies[2] = moving(0.75);
+    bodies[3] = moving(0.5);
     bodies
 }
 
 fn build() -> Scene {
-    Scene {
-        joints: joints(),
-        bodies: bodies(),
-        joint_count: 3,
-        body_count: 4,
-        context: STEP,
-    }
+    let mut scene = empty_scene(STEP);
+    scene.joints[0] = hinge(0);
+    scene.joints[1] = socket();
+    scene.joints[2] = weld();
+    scene.joint_count = 3;
+    let bodies = bodies();
+    scene.bodies = bodies;
+    scene.body_count = 4;
+    scene
 }
 
 // One line for what the run answers.

@@ -109,7 +109,7 @@ fn print_pushes(union_: JointUnion) {
     }
 }
 
-fn print_number_of(j: usize) {
+fn print_joint_number(j: usize) {
     io::write_all(STDOUT_FILENO, b"joint ");
     io::print_decimal(STDOUT_FILENO, j as u64);
 }
@@ -124,7 +124,7 @@ fn print_stops(code: u32) {
 pub fn print_joint(j: usize, joint: JointSim) {
     let union_ = joint.union_;
     let stops = stop_code(joint);
-    print_number_of(j);
+    print_joint_number(j);
     print_pushes(union_);
     print_stops(stops.code);
 }

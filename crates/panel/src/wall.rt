@@ -1,41 +1,24 @@
 // A wall of four gates, each on a post of its own. No two share a body that moves, so they may be
 // worked in any order: both lists end in the same figures.
-use crate::no_joints;
+use crate::hinge;
 use crate::print_run;
 use libc::STDOUT_FILENO;
 use models::STEP;
-use models::door::door;
-use models::prepare;
+use models::body::moving;
 use records::body::BodyState;
 use records::body::IDENTITY_BODY_STATE;
-use records::joint::JointSim;
 use scene::Scene;
+use scene::empty_scene;
 
 // A warm start and a solve with bias of each gate, from the first on and from the last on.
 const FROM_THE_FIRST: [u8; 16] = [0, 0, 0, 1, 1, 0, 1, 1, 2, 0, 2, 1, 3, 0, 3, 1];
 
 const FROM_THE_LAST: [u8; 16] = [3, 0, 3, 1, 2, 0, 2, 1, 1, 0, 1, 1, 0, 0, 0, 1];
 
-// The joint of gate k, prepared.
-fn hinge(k: u8) -> JointSim {
-    prepare(door(k), STEP)
-}
-
-fn hinges() -> [JointSim; 32] {
-    let mut joints = no_joints();
-    let mut k = 0u8;
-    while k < 4 {
-        joints[k as usize] = hinge(k);
-        k += 1;
-    }
-    joints
-}
-
 // The state of leaf k, which turns at a speed of its own.
 fn leaf(k: u8) -> BodyState {
-    let gate = door(k);
+    let mut state = moving(0.25);
     let speed = (k as f32) * 0.5;
-    let mut state = gate.state_b;
     state.angular_velocity.z = speed;
     state
 }
@@ -51,18 +34,26 @@ fn leaves() -> [BodyState; 32] {
 }
 
 fn wall() -> Scene {
-    Scene {
-        joints: hinges(),
-        bodies: leaves(),
-        joint_count: 4,
-        body_count: 4,
-        context: STEP,
+    let mut scene = empty_scene(STEP);
+    let leaves = leaves();
+    scene.bodies = leaves;
+    scene.body_count = 4;
+    scene.joint_count = 4;
+    let mut k = 0u8;
+    while k < 4 {
+        scene.joints[k as usize] = hinge(k);
+        k += 1;
     }
+    scene
+}
+
+fn print_wall(list: &[u8]) {
+    print_run(wall(), list);
 }
 
 pub fn print_walls() {
     io::write_all(STDOUT_FILENO, b"a wall of gates, from the first on\n");
-    print_run(wall(), &FROM_THE_FIRST);
+    print_wall(&FROM_THE_FIRST);
     io::write_all(STDOUT_FILENO, b"the same wall, from the last on\n");
-    print_run(wall(), &FROM_THE_LAST);
+    print_wall(&FROM_THE_LAST);
 }
