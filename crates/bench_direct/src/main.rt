@@ -10,28 +10,30 @@ use bench_wall::arguments::argument;
 use bench_wall::rows::write_checksum;
 use bench_wall::rows::write_row;
 use once::one_call;
+use rows::many_calls;
 
 // The rows of the bench before these are those of the programs bench and bench_stages.
 const FIRST: u8 = 30;
 
 const END: u8 = 39;
 
+// Three rows to a kind: warm starts, solves with bias, solves without.
+fn kind_of(row: u8) -> u8 {
+    match row / 3 {
+        10 => 0,
+        11 => 1,
+        _ => 2,
+    }
+}
+
 // The checksum of a row. Each repeat makes 4,096 calls.
 fn work(row: u8, repeats: u64) -> u32
     requires { ⌜ repeats < 1000000000 ⌝ }
 {
     if repeats == 0 {
-        return one_call(row);
+        return one_call(kind_of(row), row % 3);
     }
-    let calls = 4096 * repeats;
-    match row {
-        30 => rows::warm_start_revolute(calls),
-        31 | 32 => rows::solve_revolute(row == 31, calls),
-        33 => rows::warm_start_spherical(calls),
-        34 | 35 => rows::solve_spherical(row == 34, calls),
-        36 => rows::warm_start_weld(calls),
-        _ => rows::solve_weld(row == 37, calls),
-    }
+    many_calls(kind_of(row), row % 3, 4096 * repeats)
 }
 
 fn write_rows() {
@@ -49,7 +51,7 @@ fn main() {
     }
     let row = argument(1);
     let repeats = argument(2);
-    if 30 <= row && row < 39 {
+    if FIRST as u64 <= row && row < END as u64 {
         write_checksum(work(row as u8, repeats));
     }
 }
