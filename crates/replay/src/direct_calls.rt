@@ -107,8 +107,9 @@ fn is_whole(p: &[u8], before: usize, joint_words: usize, count: u32) -> bool {
 
 // Whether the call on the joint of the inputs and the states of `rest` leaves what the case says.
 fn is_warm_start(kind: u32, p: &[u8], rest: &[u8], count: u32) -> bool {
+    let case = word(p, 0);
     let left = warm_start(kind, cased_joint(p), states_at(rest), count as usize);
-    same_left(word(p, 0), rest, count, left)
+    same_left(case, rest, count, left)
 }
 
 fn is_solve(
@@ -119,6 +120,7 @@ fn is_solve(
     rest: &[u8],
     count: u32,
 ) -> bool {
+    let case = word(p, 0);
     let left = solve(
         kind,
         cased_joint(p),
@@ -127,7 +129,7 @@ fn is_solve(
         count as usize,
         use_bias,
     );
-    same_left(word(p, 0), rest, count, left)
+    same_left(case, rest, count, left)
 }
 
 fn agrees_warm_start(kind: u32, p: &[u8]) -> bool {

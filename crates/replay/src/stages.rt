@@ -24,6 +24,9 @@ use crate::words::behind;
 use crate::words::plus;
 use crate::words::switch;
 use crate::words::word;
+use constraint::answer::Prepared;
+use constraint::answer::Solved;
+use constraint::answer::WarmStarted;
 use constraint::velocity::Velocities;
 use joint::index::Indices;
 use joint::index::bad_index;
@@ -121,16 +124,24 @@ fn body_at(kind: u32, p: &[u8], i: usize) -> BodyRecord {
     body(behind(p, plus(words_of(kind), i)))
 }
 
-// Prepare takes the joint, the context and the two bodies. Whether it leaves what the answer has.
-fn is_prepare(kind: u32, p: &[u8], answer: &[u8]) -> bool {
-    let r = prepare(
+// Prepare takes the joint, the context and the two bodies.
+fn prepared(kind: u32, p: &[u8], joint: JointSim) -> Prepared {
+    prepare(
         kind,
-        joint(kind, p),
+        joint,
         context(behind(p, words_of(kind))),
         body_at(kind, p, CONTEXT_WORDS),
         body_at(kind, p, CONTEXT_WORDS + BODY_WORDS),
-    );
+    )
+}
+
+fn is_prepared(kind: u32, answer: &[u8], r: Prepared) -> bool {
     (r.number == 0) & (r.place == 0) & same_joint(kind, answer, r.joint)
+}
+
+// Whether the stage leaves what the answer has.
+fn is_prepare(kind: u32, p: &[u8], answer: &[u8]) -> bool {
+    is_prepared(kind, answer, prepared(kind, p, joint(kind, p)))
 }
 
 fn agrees_prepare(kind: u32, p: &[u8]) -> bool {
@@ -157,17 +168,32 @@ fn same_left(
         & same_joint(kind, behind(p, parts.joint_after), joint)
 }
 
+fn is_warm_started(
+    kind: u32,
+    p: &[u8],
+    parts: Parts,
+    at: Indices,
+    pair: StatePair,
+    r: WarmStarted,
+) -> bool {
+    (r.number == 0) & (r.place == 0) & same_left(kind, p, parts, at, pair, r.velocities, r.joint)
+}
+
 // Warm start takes the joint and the states of its bodies.
 fn is_warm_start(kind: u32, p: &[u8], parts: Parts, at: Indices) -> bool {
     let pair = states_of(p, parts, at);
     let r = warm_start(kind, joint(kind, p), pair.state_a, pair.state_b);
-    (r.number == 0) & (r.place == 0) & same_left(kind, p, parts, at, pair, r.velocities, r.joint)
+    is_warm_started(kind, p, parts, at, pair, r)
 }
 
 fn agrees_warm_start(kind: u32, p: &[u8]) -> bool {
     let parts = parts_of(kind, p, words_of(kind));
     let at = indices(kind, p);
     is_whole(p, parts, at) & is_joint(kind, p) & is_warm_start(kind, p, parts, at)
+}
+
+fn is_solved(kind: u32, p: &[u8], parts: Parts, at: Indices, pair: StatePair, r: Solved) -> bool {
+    (r.number == 0) & (r.place == 0) & same_left(kind, p, parts, at, pair, r.velocities, r.joint)
 }
 
 // Solve takes the joint, the context, a switch and the states of its bodies.
@@ -188,7 +214,7 @@ fn is_solve(
         pair.state_b,
         use_bias,
     );
-    (r.number == 0) & (r.place == 0) & same_left(kind, p, parts, at, pair, r.velocities, r.joint)
+    is_solved(kind, p, parts, at, pair, r)
 }
 
 fn agrees_solve(kind: u32, p: &[u8]) -> bool {
