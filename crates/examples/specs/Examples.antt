@@ -41,10 +41,13 @@ use Rattle.weld.specs.Weld as W
 use Rattle.joint.specs.Stage as Stage
 use Rattle.scene.specs.Scene as Scene
 use Rattle.scene.specs.Scene.{stateAt}
+use Rattle.scene.specs.Reorder.{Every}
+use Rattle.scene.specs.Chain as Chain
+use Rattle.scene.specs.Chain.{four}
 use Rattle.direct.specs.Direct as Direct
 use Rattle.direct.specs.Direct.{revolute, weld, warmStart, solve, Outcome, directCall}
 use Rattle.examples.specs.Same.{sameFloats, same-floats}
-use Rattle.examples.specs.Joints.{mat3Identity, step, jointBase, weldJoint, motorJoint, body, moving, linearImpulseX, motorImpulse}
+use Rattle.examples.specs.Joints.{mat3Identity, step, jointBase, motorJoint, body, moving, linearImpulseX, motorImpulse}
 
 -- what the definitions give, and what they must give
 pub record Example : Type 0 where
@@ -57,15 +60,12 @@ Holds e = e .gives ≡ e .must
 abbrev example : List Float → List Float → Example
 example gives must = record { gives = gives; must = must }
 
--- 0.5, 3, 4, 5 and 6
+-- 0.5, 3, 5 and 6
 abbrev half : Float
 half = lit 0x3f00_0000
 
 abbrev three : Float
 three = lit 0x4040_0000
-
-abbrev four : Float
-four = lit 0x4080_0000
 
 abbrev five : Float
 five = lit 0x40a0_0000
@@ -84,7 +84,7 @@ softParts s = s .«bias_rate» ∷ s .«mass_scale» ∷ s .«impulse_scale» �
 
 -- a weld joint, prepared
 abbrev preparedWeld : BodyRecord → BodyRecord → JointSim
-preparedWeld bodyA bodyB = W.prepareWeldJoint (jointSim (jointBase Kind.Weld) (Weld weldJoint)) (step zero) bodyA bodyB .joint
+preparedWeld bodyA bodyB = W.prepareWeldJoint (jointSim (jointBase Kind.Weld) (Chain.weld 0 0 .«union_»)) (step zero) bodyA bodyB .joint
 
 -- its linear impulse set to (1, 0, 0) after prepare
 abbrev pushed : JointUnion → JointUnion
@@ -152,10 +152,6 @@ table =
     ∷ example15
     ∷ example16
     ∷ []
-
-abbrev Every : (Example → Type 0) → List Example → Type 0
-Every P [] = Unit {0}
-Every P (e ∷ es) = P e × Every P es
 
 abbrev allSame : List Example → Bool
 allSame [] = true

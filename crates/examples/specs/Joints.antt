@@ -5,7 +5,7 @@ use lib.IntN.{ℤ, pos}
 use lib.Ieee.{Float, nan}
 use Rattle.math_functions.specs.declared.types.Matrix3.{Matrix3}
 use Rattle.math_functions.specs.Float.{zero}
-use Rattle.math_functions.specs.Types.{vec3, matrix3, vec2Zero, vec3Zero, vec3AxisX, vec3AxisY, vec3AxisZ, quatIdentity, mat3Zero, transformIdentity}
+use Rattle.math_functions.specs.Types.{matrix3, vec2Zero, vec3Zero, vec3AxisX, vec3AxisY, vec3AxisZ, quatIdentity, mat3Zero, transformIdentity}
 use Rattle.solver.specs.declared.Softness.{Softness}
 use Rattle.solver.specs.declared.StepContext.{StepContext}
 use Rattle.solver.specs.Solver.{softness}
@@ -16,7 +16,7 @@ use Rattle.records.specs.declared.joint.JointType.{JointType}
 use Rattle.records.specs.declared.joint.JointUnion.{JointUnion}
 use Rattle.records.specs.declared.joint.JointUnion.the-variants.{Revolute, Spherical, Weld, Other}
 use Rattle.records.specs.declared.joint.RevoluteJoint.{RevoluteJoint}
-use Rattle.records.specs.declared.joint.WeldJoint.{WeldJoint}
+use Rattle.scene.specs.Chain as Chain
 
 abbrev pub noSoftness : Softness
 noSoftness = softness zero zero zero
@@ -59,25 +59,6 @@ jointBase type =
       «force_threshold» = zero;
       «torque_threshold» = zero;
       «fixed_rotation» = false;
-    }
-
-abbrev pub weldJoint : WeldJoint
-weldJoint =
-    record {
-      «linear_hertz» = zero;
-      «linear_damping_ratio» = zero;
-      «angular_hertz» = zero;
-      «angular_damping_ratio» = zero;
-      «linear_spring» = noSoftness;
-      «angular_spring» = noSoftness;
-      «linear_impulse» = vec3Zero;
-      «angular_impulse» = vec3Zero;
-      «index_a» = pos 0;
-      «index_b» = pos 0;
-      «frame_a» = transformIdentity;
-      «frame_b» = transformIdentity;
-      «delta_center» = vec3Zero;
-      «angular_mass» = mat3Zero;
     }
 
 abbrev pub motorJoint : Float → Float → RevoluteJoint
@@ -127,8 +108,7 @@ body set index invMass invInertia =
 
 -- a dynamic body that moves along x
 abbrev pub moving : Float → BodyState
-moving x =
-    record { «linear_velocity» = vec3 x zero zero; «angular_velocity» = vec3Zero; «delta_position» = vec3Zero; «delta_rotation» = quatIdentity; flags = 0x1000 }
+moving x = Chain.moving x 0x1000
 
 -- the linear impulse along x of a weld, and the motor impulse of a revolute joint; another case has none
 abbrev pub linearImpulseX : JointUnion → Float

@@ -8,11 +8,19 @@ use crate::scenes::point_body;
 use crate::scenes::revolute_joint;
 use crate::scenes::step;
 use crate::scenes::weld_joint;
+use crate::words::MINUS_ONE;
+use crate::words::MINUS_TWO;
+use crate::words::ONE;
+use crate::words::THREE;
+use crate::words::ZERO;
 use crate::words::is_bits;
 use constraint::answer::Solved;
 use joint::store::store_pair;
 use math_functions::types::Matrix3;
-use math_functions::types::Vec3;
+use math_functions::types::VEC3_AXIS_X;
+use math_functions::types::VEC3_AXIS_Y;
+use math_functions::types::VEC3_AXIS_Z;
+use records::AWAKE_SET;
 use records::body::BodyRecord;
 use records::body::BodyState;
 use records::joint::JointSim;
@@ -23,16 +31,6 @@ use revolute::solve_revolute_joint;
 use weld::prepare_weld_joint;
 use weld::solve_weld_joint;
 use weld::warm_start_weld_joint;
-
-const ZERO: u32 = 0;
-
-const ONE: u32 = 0x3f80_0000;
-
-const MINUS_ONE: u32 = 0xbf80_0000;
-
-const MINUS_TWO: u32 = 0xc000_0000;
-
-const THREE: u32 = 0x4040_0000;
 
 fn weld_sim() -> JointSim {
     JointSim {
@@ -55,10 +53,10 @@ fn solved_weld(body_a: BodyRecord, body_b: BodyRecord, a: BodyState, b: BodyStat
 // Whether the joint is a weld with this linear impulse along x.
 fn has_linear_impulse(sim: JointSim, bits: u32) -> bool {
     let u = sim.union_;
-    match u {
-        JointUnion::Weld(j) => is_bits(j.linear_impulse.x, bits),
-        _ => false,
-    }
+    let JointUnion::Weld(j) = u else {
+        return false;
+    };
+    is_bits(j.linear_impulse.x, bits)
 }
 
 pub fn is_13() -> bool {
@@ -81,31 +79,19 @@ pub fn is_14() -> bool {
 
 fn identity_matrix() -> Matrix3 {
     Matrix3 {
-        cx: Vec3 {
-            x: 1.0,
-            y: 0.0,
-            z: 0.0,
-        },
-        cy: Vec3 {
-            x: 0.0,
-            y: 1.0,
-            z: 0.0,
-        },
-        cz: Vec3 {
-            x: 0.0,
-            y: 0.0,
-            z: 1.0,
-        },
+        cx: VEC3_AXIS_X,
+        cy: VEC3_AXIS_Y,
+        cz: VEC3_AXIS_Z,
     }
 }
 
 // Whether the joint is a revolute joint with this motor impulse.
 fn has_motor_impulse(sim: JointSim, bits: u32) -> bool {
     let u = sim.union_;
-    match u {
-        JointUnion::Revolute(j) => is_bits(j.motor_impulse, bits),
-        _ => false,
-    }
+    let JointUnion::Revolute(j) = u else {
+        return false;
+    };
+    is_bits(j.motor_impulse, bits)
 }
 
 fn motor_sim() -> JointSim {
@@ -116,48 +102,40 @@ fn motor_sim() -> JointSim {
 }
 
 fn prepared_motor() -> JointSim {
-    let sim = motor_sim();
-    let b = body(0, 1.0, identity_matrix());
-    let p = prepare_revolute_joint(sim, step(0.5), fixed_body(), b);
+    let b = body(AWAKE_SET, 0, 1.0, identity_matrix());
+    let p = prepare_revolute_joint(motor_sim(), step(0.5), fixed_body(), b);
     p.joint
 }
 
 pub fn is_15() -> bool {
-    let sim = prepared_motor();
     let a = fixed_state();
     let b = moving(0.0);
-    let s = solve_revolute_joint(sim, step(0.5), a, b, false);
+    let s = solve_revolute_joint(prepared_motor(), step(0.5), a, b, false);
     let after = store_pair(a, b, false, s.velocities);
-    has_motor_impulse(s.joint, ONE) & is_bits(after.state_b.angular_velocity.z, ONE)
+    is_bits(after.state_b.angular_velocity.z, ONE) & has_motor_impulse(s.joint, ONE)
 }
 
-// The union with the linear impulse (1, 0, 0), if it is a weld's.
-fn with_impulse(u: JointUnion) -> JointUnion {
-    match u {
-        JointUnion::Weld(j) => {
-            let mut next = j;
-            next.linear_impulse.x = 1.0;
-            JointUnion::Weld(next)
-        }
-        _ => u,
-    }
-}
-
+// The joint with the linear impulse (1, 0, 0), if it is a weld.
 fn with_linear_impulse(sim: JointSim) -> JointSim {
     let u = sim.union_;
+    let JointUnion::Weld(mut j) = u else {
+        return sim;
+    };
+    j.linear_impulse.x = 1.0;
     let base = sim.base;
     JointSim {
         base,
-        union_: with_impulse(u),
+        union_: JointUnion::Weld(j),
     }
 }
 
+fn pushed_weld(body: BodyRecord) -> JointSim {
+    with_linear_impulse(prepared_weld(body, body))
+}
+
 pub fn is_16() -> bool {
-    let body_0 = point_body(0);
-    let mut sim = prepared_weld(body_0, body_0);
-    sim = with_linear_impulse(sim);
     let state = moving(2.0);
-    let w = warm_start_weld_joint(sim, state, state);
+    let w = warm_start_weld_joint(pushed_weld(point_body(0)), state, state);
     let after = store_pair(state, state, true, w.velocities);
     is_bits(after.state_a.linear_velocity.x, THREE)
 }

@@ -1,4 +1,10 @@
 // Examples 1 to 12: the leaves.
+use crate::words::MINUS_TWO;
+use crate::words::MINUS_ZERO;
+use crate::words::ONE;
+use crate::words::THREE;
+use crate::words::TWO;
+use crate::words::ZERO;
 use crate::words::is_bits;
 use crate::words::is_vec2;
 use crate::words::is_vec3;
@@ -13,18 +19,6 @@ use math_functions::types::Vec2;
 use math_functions::types::Vec3;
 use solver::make_soft;
 use sqrt::sqrt;
-
-const ZERO: u32 = 0;
-
-const MINUS_ZERO: u32 = 0x8000_0000;
-
-const ONE: u32 = 0x3f80_0000;
-
-const TWO: u32 = 0x4000_0000;
-
-const MINUS_TWO: u32 = 0xc000_0000;
-
-const THREE: u32 = 0x4040_0000;
 
 pub fn is_1() -> bool {
     is_bits(max_float(0.0 / 0.0, 0.0), ZERO)

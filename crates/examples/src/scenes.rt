@@ -69,14 +69,14 @@ pub fn joint_base(type_: JointType) -> JointBase {
 pub fn weld_joint() -> WeldJoint {
     let frame = TRANSFORM_IDENTITY;
     let zero = VEC3_ZERO;
-    let rigid = no_softness();
+    let soft = no_softness();
     WeldJoint {
         linear_hertz: 0.0,
         linear_damping_ratio: 0.0,
         angular_hertz: 0.0,
         angular_damping_ratio: 0.0,
-        linear_spring: rigid,
-        angular_spring: rigid,
+        linear_spring: soft,
+        angular_spring: soft,
         linear_impulse: zero,
         angular_impulse: zero,
         index_a: 0,
@@ -122,10 +122,15 @@ pub fn revolute_joint(max_motor_torque: f32, motor_speed: f32) -> RevoluteJoint 
     }
 }
 
-// A body at an index of the awake set.
-pub fn body(local_index: i32, inv_mass: f32, inv_inertia_world: Matrix3) -> BodyRecord {
+// A body at an index of a set.
+pub fn body(
+    set_index: i32,
+    local_index: i32,
+    inv_mass: f32,
+    inv_inertia_world: Matrix3,
+) -> BodyRecord {
     BodyRecord {
-        set_index: AWAKE_SET,
+        set_index,
         local_index,
         inv_mass,
         inv_inertia_world,
@@ -137,20 +142,12 @@ pub fn body(local_index: i32, inv_mass: f32, inv_inertia_world: Matrix3) -> Body
 
 // A body with the inverse mass 1 that does not turn.
 pub fn point_body(local_index: i32) -> BodyRecord {
-    body(local_index, 1.0, MAT3_ZERO)
+    body(AWAKE_SET, local_index, 1.0, MAT3_ZERO)
 }
 
 // A body of another set, which gets the index -1.
 pub fn fixed_body() -> BodyRecord {
-    BodyRecord {
-        set_index: 0,
-        local_index: 0,
-        inv_mass: 0.0,
-        inv_inertia_world: MAT3_ZERO,
-        rotation: QUAT_IDENTITY,
-        center: VEC3_ZERO,
-        local_center: VEC3_ZERO,
-    }
+    body(0, 0, 0.0, MAT3_ZERO)
 }
 
 // The state of a body that gets no index.
