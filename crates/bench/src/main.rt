@@ -40,7 +40,7 @@ fn main() {
     }
     let row = argument(1);
     let repeats = argument(2);
-    if row < 18 {
+    if row < ROWS as u64 {
         write_checksum(work(row as u8, repeats));
     }
 }
