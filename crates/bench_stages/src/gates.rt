@@ -4,7 +4,6 @@ ghost use Prim.Native.Nat.{_<_};
 use bench_wall::sum::add_gate;
 use bench_wall::wall::body_before;
 use bench_wall::wall::unprepared_wall;
-use constraint::answer::Prepared;
 use constraint::answer::Solved;
 use records::body::BodyRecord;
 use records::body::BodyState;
@@ -58,10 +57,6 @@ pub fn wall_bodies() -> [BodyRecord; 33] {
         k += 1;
     }
     bodies
-}
-
-pub fn prepared_joint(p: Prepared) -> JointSim {
-    p.joint
 }
 
 pub fn solved_joint(s: Solved) -> JointSim {

@@ -49,7 +49,7 @@ fn main() {
     }
     let row = argument(1);
     let repeats = argument(2);
-    if 18 <= row && row < 30 {
+    if FIRST as u64 <= row && row < END as u64 {
         write_checksum(work(row as u8, repeats));
     }
 }
