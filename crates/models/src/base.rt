@@ -10,7 +10,7 @@ use records::joint::JointType;
 use solver::make_soft;
 
 // A joint's frame on its first body, half way to the second.
-pub const FRAME_A: Transform = Transform {
+const FRAME_A: Transform = Transform {
     p: Vec3 {
         x: 0.5,
         y: 0.0625,
@@ -20,7 +20,7 @@ pub const FRAME_A: Transform = Transform {
 };
 
 // And on the second, a little turned and tilted.
-pub const FRAME_B: Transform = Transform {
+const FRAME_B: Transform = Transform {
     p: Vec3 {
         x: -0.5,
         y: 0.0625,

@@ -13,7 +13,7 @@ use records::body::BodyState;
 use records::body::DYNAMIC_FLAG;
 
 // The inverse inertia of a slab that does not stand along the axes.
-pub const SLAB: Matrix3 = Matrix3 {
+const SLAB: Matrix3 = Matrix3 {
     cx: Vec3 {
         x: 2.0,
         y: 0.125,

@@ -21,7 +21,7 @@ use records::joint::JointUnion;
 use records::joint::RevoluteJoint;
 
 // The hinge, with impulses that a step before has left.
-pub const HINGE: RevoluteJoint = RevoluteJoint {
+const HINGE: RevoluteJoint = RevoluteJoint {
     linear_impulse: Vec3 {
         x: 0.01,
         y: -0.02,

@@ -20,7 +20,7 @@ use records::joint::JointUnion;
 use records::joint::SphericalJoint;
 
 // The socket, with impulses that a step before has left.
-pub const SOCKET: SphericalJoint = SphericalJoint {
+const SOCKET: SphericalJoint = SphericalJoint {
     linear_impulse: Vec3 {
         x: 0.01,
         y: -0.02,

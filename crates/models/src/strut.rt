@@ -20,7 +20,7 @@ use records::joint::JointUnion;
 use records::joint::WeldJoint;
 
 // The weld, with impulses that a step before has left.
-pub const WELD: WeldJoint = WeldJoint {
+const WELD: WeldJoint = WeldJoint {
     linear_hertz: 2.0,
     linear_damping_ratio: 0.5,
     angular_hertz: 2.0,
