@@ -29,11 +29,12 @@ use lent_calls::lend_warm_start_revolute_joint;
 use lent_calls::lend_warm_start_spherical_joint;
 use lent_calls::lend_warm_start_weld_joint;
 use records::body::BodyState;
-use records::joint::JointSim;
 use solver::StepContext;
 
-// The call of a kind.
-fn warm_start(kind: u32, joint: JointSim, states: [BodyState; 3], count: usize) -> Left {
+// The call on the joint of the inputs and the states of `rest`.
+fn warm_start(kind: u32, p: &[u8], rest: &[u8], count: usize) -> Left {
+    let joint = cased_joint(p);
+    let states = states_at(rest);
     if kind == 0 {
         return lend_warm_start_revolute_joint(joint, states, count);
     }
@@ -45,12 +46,14 @@ fn warm_start(kind: u32, joint: JointSim, states: [BodyState; 3], count: usize) 
 
 fn solve(
     kind: u32,
-    joint: JointSim,
+    p: &[u8],
     step: StepContext,
-    states: [BodyState; 3],
-    count: usize,
     use_bias: bool,
+    rest: &[u8],
+    count: usize,
 ) -> Left {
+    let joint = cased_joint(p);
+    let states = states_at(rest);
     if kind == 0 {
         return lend_solve_revolute_joint(joint, step, states, count, use_bias);
     }
@@ -105,11 +108,10 @@ fn is_whole(p: &[u8], before: usize, joint_words: usize, count: u32) -> bool {
         )
 }
 
-// Whether the call on the joint of the inputs and the states of `rest` leaves what the case says.
+// Whether the call leaves what the case says.
 fn is_warm_start(kind: u32, p: &[u8], rest: &[u8], count: u32) -> bool {
     let case = word(p, 0);
-    let left = warm_start(kind, cased_joint(p), states_at(rest), count as usize);
-    same_left(case, rest, count, left)
+    same_left(case, rest, count, warm_start(kind, p, rest, count as usize))
 }
 
 fn is_solve(
@@ -121,14 +123,7 @@ fn is_solve(
     count: u32,
 ) -> bool {
     let case = word(p, 0);
-    let left = solve(
-        kind,
-        cased_joint(p),
-        step,
-        states_at(rest),
-        count as usize,
-        use_bias,
-    );
+    let left = solve(kind, p, step, use_bias, rest, count as usize);
     same_left(case, rest, count, left)
 }
 

@@ -1,11 +1,18 @@
 // The stages of the kinds, called alike. A kind is a number: 0 for the revolute joint, 1 for the
 // spherical one, and else the weld joint.
+use crate::joint_words::joint;
+use crate::joint_words::words_of;
+use crate::record_words::BODY_WORDS;
+use crate::record_words::CONTEXT_WORDS;
+use crate::record_words::body;
+use crate::record_words::context;
+use crate::words::behind;
+use crate::words::plus;
 use constraint::answer::Prepared;
 use constraint::answer::Solved;
 use constraint::answer::WarmStarted;
+use joint::store::StatePair;
 use records::body::BodyRecord;
-use records::body::BodyState;
-use records::joint::JointSim;
 use revolute::prepare_revolute_joint;
 use revolute::solve_revolute_joint;
 use revolute::warm_start_revolute_joint;
@@ -17,13 +24,17 @@ use weld::prepare_weld_joint;
 use weld::solve_weld_joint;
 use weld::warm_start_weld_joint;
 
-pub fn prepare(
-    kind: u32,
-    joint: JointSim,
-    step: StepContext,
-    body_a: BodyRecord,
-    body_b: BodyRecord,
-) -> Prepared {
+// The body that stands i words behind the joint.
+fn body_at(kind: u32, p: &[u8], i: usize) -> BodyRecord {
+    body(behind(p, plus(words_of(kind), i)))
+}
+
+// Prepare takes the joint, the context and the two bodies.
+pub fn prepare(kind: u32, p: &[u8]) -> Prepared {
+    let joint = joint(kind, p);
+    let step = context(behind(p, words_of(kind)));
+    let body_a = body_at(kind, p, CONTEXT_WORDS);
+    let body_b = body_at(kind, p, CONTEXT_WORDS + BODY_WORDS);
     if kind == 0 {
         return prepare_revolute_joint(joint, step, body_a, body_b);
     }
@@ -33,34 +44,26 @@ pub fn prepare(
     prepare_weld_joint(joint, step, body_a, body_b)
 }
 
-pub fn warm_start(
-    kind: u32,
-    joint: JointSim,
-    state_a: BodyState,
-    state_b: BodyState,
-) -> WarmStarted {
+// Warm start takes the joint and the states of its bodies.
+pub fn warm_start(kind: u32, p: &[u8], pair: StatePair) -> WarmStarted {
+    let joint = joint(kind, p);
     if kind == 0 {
-        return warm_start_revolute_joint(joint, state_a, state_b);
+        return warm_start_revolute_joint(joint, pair.state_a, pair.state_b);
     }
     if kind == 1 {
-        return warm_start_spherical_joint(joint, state_a, state_b);
+        return warm_start_spherical_joint(joint, pair.state_a, pair.state_b);
     }
-    warm_start_weld_joint(joint, state_a, state_b)
+    warm_start_weld_joint(joint, pair.state_a, pair.state_b)
 }
 
-pub fn solve(
-    kind: u32,
-    joint: JointSim,
-    step: StepContext,
-    state_a: BodyState,
-    state_b: BodyState,
-    use_bias: bool,
-) -> Solved {
+// Solve takes the joint, the context, a switch and the states of its bodies.
+pub fn solve(kind: u32, p: &[u8], step: StepContext, use_bias: bool, pair: StatePair) -> Solved {
+    let joint = joint(kind, p);
     if kind == 0 {
-        return solve_revolute_joint(joint, step, state_a, state_b, use_bias);
+        return solve_revolute_joint(joint, step, pair.state_a, pair.state_b, use_bias);
     }
     if kind == 1 {
-        return solve_spherical_joint(joint, step, state_a, state_b, use_bias);
+        return solve_spherical_joint(joint, step, pair.state_a, pair.state_b, use_bias);
     }
-    solve_weld_joint(joint, step, state_a, state_b, use_bias)
+    solve_weld_joint(joint, step, pair.state_a, pair.state_b, use_bias)
 }

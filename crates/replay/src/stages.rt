@@ -6,12 +6,10 @@ use crate::compare::has_words;
 use crate::compare::is_switch;
 use crate::joint_words::indices;
 use crate::joint_words::is_joint;
-use crate::joint_words::joint;
 use crate::joint_words::same_joint;
 use crate::joint_words::words_of;
 use crate::record_words::BODY_WORDS;
 use crate::record_words::CONTEXT_WORDS;
-use crate::record_words::body;
 use crate::record_words::context;
 use crate::record_words::same_context;
 use crate::record_words::same_state;
@@ -24,16 +22,12 @@ use crate::words::behind;
 use crate::words::plus;
 use crate::words::switch;
 use crate::words::word;
-use constraint::answer::Prepared;
-use constraint::answer::Solved;
-use constraint::answer::WarmStarted;
 use constraint::velocity::Velocities;
 use joint::index::Indices;
 use joint::index::bad_index;
 use joint::store::StatePair;
 use joint::store::store_pair;
 use records::NULL_INDEX;
-use records::body::BodyRecord;
 use records::body::BodyState;
 use records::body::IDENTITY_BODY_STATE;
 use records::joint::JointSim;
@@ -119,29 +113,10 @@ fn is_whole(p: &[u8], parts: Parts, at: Indices) -> bool {
     count <= 3 && has_words(p, parts.end) && !bad_index(count, at.a) && !bad_index(count, at.b)
 }
 
-// The body that stands i words behind the joint.
-fn body_at(kind: u32, p: &[u8], i: usize) -> BodyRecord {
-    body(behind(p, plus(words_of(kind), i)))
-}
-
-// Prepare takes the joint, the context and the two bodies.
-fn prepared(kind: u32, p: &[u8], joint: JointSim) -> Prepared {
-    prepare(
-        kind,
-        joint,
-        context(behind(p, words_of(kind))),
-        body_at(kind, p, CONTEXT_WORDS),
-        body_at(kind, p, CONTEXT_WORDS + BODY_WORDS),
-    )
-}
-
-fn is_prepared(kind: u32, answer: &[u8], r: Prepared) -> bool {
-    (r.number == 0) & (r.place == 0) & same_joint(kind, answer, r.joint)
-}
-
 // Whether the stage leaves what the answer has.
 fn is_prepare(kind: u32, p: &[u8], answer: &[u8]) -> bool {
-    is_prepared(kind, answer, prepared(kind, p, joint(kind, p)))
+    let r = prepare(kind, p);
+    (r.number == 0) & (r.place == 0) & same_joint(kind, answer, r.joint)
 }
 
 fn agrees_prepare(kind: u32, p: &[u8]) -> bool {
@@ -168,22 +143,10 @@ fn same_left(
         & same_joint(kind, behind(p, parts.joint_after), joint)
 }
 
-fn is_warm_started(
-    kind: u32,
-    p: &[u8],
-    parts: Parts,
-    at: Indices,
-    pair: StatePair,
-    r: WarmStarted,
-) -> bool {
-    (r.number == 0) & (r.place == 0) & same_left(kind, p, parts, at, pair, r.velocities, r.joint)
-}
-
-// Warm start takes the joint and the states of its bodies.
 fn is_warm_start(kind: u32, p: &[u8], parts: Parts, at: Indices) -> bool {
     let pair = states_of(p, parts, at);
-    let r = warm_start(kind, joint(kind, p), pair.state_a, pair.state_b);
-    is_warm_started(kind, p, parts, at, pair, r)
+    let r = warm_start(kind, p, pair);
+    (r.number == 0) & (r.place == 0) & same_left(kind, p, parts, at, pair, r.velocities, r.joint)
 }
 
 fn agrees_warm_start(kind: u32, p: &[u8]) -> bool {
@@ -192,11 +155,6 @@ fn agrees_warm_start(kind: u32, p: &[u8]) -> bool {
     is_whole(p, parts, at) & is_joint(kind, p) & is_warm_start(kind, p, parts, at)
 }
 
-fn is_solved(kind: u32, p: &[u8], parts: Parts, at: Indices, pair: StatePair, r: Solved) -> bool {
-    (r.number == 0) & (r.place == 0) & same_left(kind, p, parts, at, pair, r.velocities, r.joint)
-}
-
-// Solve takes the joint, the context, a switch and the states of its bodies.
 fn is_solve(
     kind: u32,
     p: &[u8],
@@ -206,15 +164,8 @@ fn is_solve(
     at: Indices,
 ) -> bool {
     let pair = states_of(p, parts, at);
-    let r = solve(
-        kind,
-        joint(kind, p),
-        step,
-        pair.state_a,
-        pair.state_b,
-        use_bias,
-    );
-    is_solved(kind, p, parts, at, pair, r)
+    let r = solve(kind, p, step, use_bias, pair);
+    (r.number == 0) & (r.place == 0) & same_left(kind, p, parts, at, pair, r.velocities, r.joint)
 }
 
 fn agrees_solve(kind: u32, p: &[u8]) -> bool {
