@@ -22,11 +22,8 @@ use Rattle.math_functions.specs.Matrix as Matrix
 use Rattle.math_functions.specs.Transform as Transform
 use Rattle.solver.specs.declared.Softness.{Softness}
 use Rattle.solver.specs.Solver as Solver
-use Rattle.records.specs.declared.joint.JointSim.{JointSim}
-use Rattle.records.specs.declared.joint.JointType.the-variants as Kind
 use Rattle.records.specs.declared.joint.JointUnion.{JointUnion}
 use Rattle.records.specs.declared.joint.JointUnion.the-variants.{Revolute, Spherical, Weld, Other}
-use Rattle.records.specs.declared.body.BodyRecord.{BodyRecord}
 use Rattle.records.specs.declared.body.BodyState.{BodyState}
 use Rattle.records.specs.Body as Body
 use Rattle.constraint.specs.Velocity as Velocity
@@ -42,12 +39,11 @@ use Rattle.joint.specs.Stage as Stage
 use Rattle.scene.specs.Scene as Scene
 use Rattle.scene.specs.Scene.{stateAt}
 use Rattle.scene.specs.Reorder.{Every}
-use Rattle.scene.specs.Chain as Chain
 use Rattle.scene.specs.Chain.{four}
 use Rattle.direct.specs.Direct as Direct
 use Rattle.direct.specs.Direct.{revolute, weld, warmStart, solve, Outcome, directCall}
 use Rattle.examples.specs.Same.{sameFloats, same-floats}
-use Rattle.examples.specs.Joints.{mat3Identity, step, jointBase, motorJoint, body, moving, linearImpulseX, motorImpulse}
+use Rattle.examples.specs.Joints.{half, step, motorJoint, free0, free1, fixed, preparedWeld, preparedHinge, moving, linearImpulseX, motorImpulse}
 
 -- what the definitions give, and what they must give
 pub record Example : Type 0 where
@@ -60,10 +56,7 @@ Holds e = e .gives ≡ e .must
 abbrev example : List Float → List Float → Example
 example gives must = record { gives = gives; must = must }
 
--- 0.5, 3, 5 and 6
-abbrev half : Float
-half = lit 0x3f00_0000
-
+-- 3, 5 and 6
 abbrev three : Float
 three = lit 0x4040_0000
 
@@ -82,26 +75,12 @@ parts3 v = v .x ∷ v .y ∷ v .z ∷ []
 abbrev softParts : Softness → List Float
 softParts s = s .«bias_rate» ∷ s .«mass_scale» ∷ s .«impulse_scale» ∷ []
 
--- a weld joint, prepared
-abbrev preparedWeld : BodyRecord → BodyRecord → JointSim
-preparedWeld bodyA bodyB = W.prepareWeldJoint (jointSim (jointBase Kind.Weld) (Chain.weld 0 0 .«union_»)) (step zero) bodyA bodyB .joint
-
 -- its linear impulse set to (1, 0, 0) after prepare
 abbrev pushed : JointUnion → JointUnion
 pushed (Revolute j) = Revolute j
 pushed (Spherical j) = Spherical j
 pushed (Weld j) = Weld (W.withImpulses j (vec3 one zero zero) (j .«angular_impulse»))
 pushed Other = Other
-
-abbrev free0 : BodyRecord
-free0 = body (pos 2) (pos 0) one mat3Zero
-
-abbrev free1 : BodyRecord
-free1 = body (pos 2) (pos 1) one mat3Zero
-
--- a body at -1, with mass and inertia 0
-abbrev fixed : BodyRecord
-fixed = body (pos 0) (pos 0) zero mat3Zero
 
 -- the state of a number, as a call leaves it
 abbrev leaves : Outcome → ℕ → BodyState
@@ -122,7 +101,7 @@ example14 =
 -- a motor of torque 2 and speed 4, for half a second
 example15 : Example
 example15 =
-    let sim = R.prepareRevoluteJoint (jointSim (jointBase Kind.Revolute) (Revolute (motorJoint two four))) (step half) fixed (body (pos 2) (pos 0) one mat3Identity) .joint in
+    let sim = preparedHinge (motorJoint two four) (step half) in
     let after = directCall (solve revolute (step half) false) sim (moving zero ∷ []) in
     example (motorImpulse (after .joint .«union_») ∷ leaves after 0 .«angular_velocity» .z ∷ []) (one ∷ one ∷ [])
 

@@ -1,54 +1,65 @@
--- The joints, bodies and states of examples 13 to 16: rotations, frames and deltas identity, all that an example does not name zero, and switches off.
+-- The joints, bodies and states of examples 13 to 16 and of the captions: rotations, frames and deltas identity, all that is not named zero, and switches off.
 -- Definitions only. Assumes nothing.
-use mathlib.Core.Bool.{true, false}
+use mathlib.Core.Bool.{Bool, true, false}
 use lib.IntN.{ℤ, pos}
 use lib.Ieee.{Float, nan}
 use Rattle.math_functions.specs.declared.types.Matrix3.{Matrix3}
-use Rattle.math_functions.specs.Float.{zero}
+use Rattle.math_functions.specs.declared.types.Transform.{Transform}
+use Rattle.math_functions.specs.Float.{lit, zero, one}
 use Rattle.math_functions.specs.Types.{matrix3, vec2Zero, vec3Zero, vec3AxisX, vec3AxisY, vec3AxisZ, quatIdentity, mat3Zero, transformIdentity}
-use Rattle.solver.specs.declared.Softness.{Softness}
 use Rattle.solver.specs.declared.StepContext.{StepContext}
-use Rattle.solver.specs.Solver.{softness}
+use Rattle.solver.specs.Solver.{noSoftness}
 use Rattle.records.specs.declared.body.BodyState.{BodyState}
 use Rattle.records.specs.declared.body.BodyRecord.{BodyRecord}
 use Rattle.records.specs.declared.joint.JointBase.{JointBase}
 use Rattle.records.specs.declared.joint.JointType.{JointType}
+use Rattle.records.specs.declared.joint.JointType.the-variants as Kind
+use Rattle.records.specs.declared.joint.JointSim.{JointSim}
 use Rattle.records.specs.declared.joint.JointUnion.{JointUnion}
 use Rattle.records.specs.declared.joint.JointUnion.the-variants.{Revolute, Spherical, Weld, Other}
 use Rattle.records.specs.declared.joint.RevoluteJoint.{RevoluteJoint}
+use Rattle.constraint.specs.Answer.{jointSim}
+use Rattle.revolute.specs.Revolute as R
+use Rattle.weld.specs.Weld as W
 use Rattle.scene.specs.Chain as Chain
 
-abbrev pub noSoftness : Softness
-noSoftness = softness zero zero zero
+-- 0.5
+abbrev pub half : Float
+half = lit 0x3f00_0000
 
 abbrev pub mat3Identity : Matrix3
 mat3Identity = matrix3 vec3AxisX vec3AxisY vec3AxisZ
 
-abbrev pub step : Float → StepContext
-step h =
+-- a step by its length, the inverse of that, and whether joints are warm started
+abbrev pub stepOf : Float → Float → Bool → StepContext
+stepOf h invH enableWarmStarting =
     record {
       dt = zero;
       «inv_dt» = zero;
       h = h;
-      «inv_h» = zero;
+      «inv_h» = invH;
       «sub_step_count» = pos 0;
       «contact_softness» = noSoftness;
       «static_softness» = noSoftness;
       «restitution_threshold» = zero;
       «max_linear_velocity» = zero;
       «contact_speed» = zero;
-      «enable_warm_starting» = false;
+      «enable_warm_starting» = enableWarmStarting;
     }
 
-abbrev pub jointBase : JointType → JointBase
-jointBase type =
+abbrev pub step : Float → StepContext
+step h = stepOf h zero false
+
+-- the common part of a joint, by its type and the frame on B
+abbrev pub jointBaseOn : JointType → Transform → JointBase
+jointBaseOn type frameB =
     record {
       «joint_id» = pos 0;
       «body_id_a» = pos 0;
       «body_id_b» = pos 0;
       «type_» = type;
       «local_frame_a» = transformIdentity;
-      «local_frame_b» = transformIdentity;
+      «local_frame_b» = frameB;
       «inv_mass_a» = zero;
       «inv_mass_b» = zero;
       «inv_i_a» = mat3Zero;
@@ -61,22 +72,26 @@ jointBase type =
       «fixed_rotation» = false;
     }
 
-abbrev pub motorJoint : Float → Float → RevoluteJoint
-motorJoint maxMotorTorque motorSpeed =
+abbrev pub jointBase : JointType → JointBase
+jointBase type = jointBaseOn type transformIdentity
+
+-- a hinge by its motor's switch, torque and speed, and its limit's switch, two angles and the impulse that is stored at the lower one
+abbrev pub hinge : Bool → Float → Float → Bool → Float → Float → Float → RevoluteJoint
+hinge enableMotor maxMotorTorque motorSpeed enableLimit lowerAngle upperAngle lowerImpulse =
     record {
       «linear_impulse» = vec3Zero;
       «perp_impulse» = vec2Zero;
       «spring_impulse» = zero;
       «motor_impulse» = zero;
-      «lower_impulse» = zero;
+      «lower_impulse» = lowerImpulse;
       «upper_impulse» = zero;
       hertz = zero;
       «damping_ratio» = zero;
       «max_motor_torque» = maxMotorTorque;
       «motor_speed» = motorSpeed;
       «target_angle» = zero;
-      «lower_angle» = zero;
-      «upper_angle» = zero;
+      «lower_angle» = lowerAngle;
+      «upper_angle» = upperAngle;
       «index_a» = pos 0;
       «index_b» = pos 0;
       «frame_a» = transformIdentity;
@@ -89,9 +104,12 @@ motorJoint maxMotorTorque motorSpeed =
       «axial_mass» = zero;
       «spring_softness» = noSoftness;
       «enable_spring» = false;
-      «enable_motor» = true;
-      «enable_limit» = false;
+      «enable_motor» = enableMotor;
+      «enable_limit» = enableLimit;
     }
+
+abbrev pub motorJoint : Float → Float → RevoluteJoint
+motorJoint maxMotorTorque motorSpeed = hinge true maxMotorTorque motorSpeed false zero zero zero
 
 -- a body of a set; the awake set is 2
 abbrev pub body : ℤ → ℤ → Float → Matrix3 → BodyRecord
@@ -105,6 +123,28 @@ body set index invMass invInertia =
       center = vec3Zero;
       «local_center» = vec3Zero;
     }
+
+abbrev pub free0 : BodyRecord
+free0 = body (pos 2) (pos 0) one mat3Zero
+
+abbrev pub free1 : BodyRecord
+free1 = body (pos 2) (pos 1) one mat3Zero
+
+-- one that can turn
+abbrev pub turns0 : BodyRecord
+turns0 = body (pos 2) (pos 0) one mat3Identity
+
+-- a body at -1, with mass and inertia 0
+abbrev pub fixed : BodyRecord
+fixed = body (pos 0) (pos 0) zero mat3Zero
+
+-- a weld joint, prepared
+abbrev pub preparedWeld : BodyRecord → BodyRecord → JointSim
+preparedWeld bodyA bodyB = W.prepareWeldJoint (jointSim (jointBase Kind.Weld) (Chain.weld 0 0 .«union_»)) (step zero) bodyA bodyB .joint
+
+-- a hinge of the world and body 0, prepared
+abbrev pub preparedHinge : RevoluteJoint → StepContext → JointSim
+preparedHinge j context = R.prepareRevoluteJoint (jointSim (jointBase Kind.Revolute) (Revolute j)) context fixed turns0 .joint
 
 -- a dynamic body that moves along x
 abbrev pub moving : Float → BodyState

@@ -1,3 +1,4 @@
 pub mod Same
 pub mod Joints
 pub mod Examples
+pub mod Captions
