@@ -16,15 +16,12 @@ use records::joint::JointBase;
 use records::joint::JointType;
 use records::joint::RevoluteJoint;
 use records::joint::WeldJoint;
+use solver::NO_SOFTNESS;
 use solver::Softness;
 use solver::StepContext;
 
 pub fn no_softness() -> Softness {
-    Softness {
-        bias_rate: 0.0,
-        mass_scale: 0.0,
-        impulse_scale: 0.0,
-    }
+    NO_SOFTNESS
 }
 
 pub fn step(h: f32) -> StepContext {

@@ -14,7 +14,7 @@ use Rattle.spherical.specs.Spherical.{prepareSphericalJoint}
 use Rattle.weld.specs.Weld.{prepareWeldJoint}
 use Rattle.records.specs.Joint.{caseOf}
 use Rattle.math_functions.specs.Float.{lit, zero, one}
-use Rattle.solver.specs.Solver.{softness}
+use Rattle.solver.specs.Solver.{noSoftness}
 use Rattle.models.specs.declared.Model.{Model}
 
 -- STEP: 1/64 s in four sub-steps
@@ -26,8 +26,8 @@ step =
       h = lit 0x3b80_0000;
       «inv_h» = lit 0x4380_0000;
       «sub_step_count» = pos 4;
-      «contact_softness» = softness zero zero zero;
-      «static_softness» = softness zero zero zero;
+      «contact_softness» = noSoftness;
+      «static_softness» = noSoftness;
       «restitution_threshold» = one;
       «max_linear_velocity» = lit 0x43c8_0000;
       «contact_speed» = lit 0x4040_0000;

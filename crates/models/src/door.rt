@@ -5,7 +5,6 @@ ghost use lib.IntN.{pos};
 ghost use Rattle.records.specs.Joint.{caseOf};
 ghost use Rattle.models.specs.Model.{OfCase, Fixed, Awake};
 use crate::Model;
-use crate::NO_SOFTNESS;
 use crate::base::POST;
 use crate::base::joint_base;
 use crate::body::fixed_body;
@@ -19,6 +18,7 @@ use records::joint::JointSim;
 use records::joint::JointType;
 use records::joint::JointUnion;
 use records::joint::RevoluteJoint;
+use solver::NO_SOFTNESS;
 
 // The hinge, with impulses that a step before has left.
 const HINGE: RevoluteJoint = RevoluteJoint {

@@ -5,7 +5,6 @@ ghost use lib.IntN.{pos};
 ghost use Rattle.records.specs.Joint.{caseOf};
 ghost use Rattle.models.specs.Model.{OfCase, Awake};
 use crate::Model;
-use crate::NO_SOFTNESS;
 use crate::base::joint_base;
 use crate::body::slab;
 use math_functions::types::MAT3_ZERO;
@@ -18,6 +17,7 @@ use records::joint::JointSim;
 use records::joint::JointType;
 use records::joint::JointUnion;
 use records::joint::SphericalJoint;
+use solver::NO_SOFTNESS;
 
 // The socket, with impulses that a step before has left.
 const SOCKET: SphericalJoint = SphericalJoint {

@@ -10,7 +10,7 @@ use records::body::BodyRecord;
 use records::joint::JointSim;
 use records::joint::JointUnion;
 use revolute::prepare_revolute_joint;
-use solver::Softness;
+use solver::NO_SOFTNESS;
 use solver::StepContext;
 use spherical::prepare_spherical_joint;
 use weld::prepare_weld_joint;
@@ -29,12 +29,6 @@ pub struct Model {
     pub body_a: BodyRecord,
     pub body_b: BodyRecord,
 }
-
-pub const NO_SOFTNESS: Softness = Softness {
-    bias_rate: 0.0,
-    mass_scale: 0.0,
-    impulse_scale: 0.0,
-};
 
 // A step of 1/64 s in four sub-steps. No joint reads the softness of the contacts.
 pub const STEP: StepContext = StepContext {

@@ -3,6 +3,7 @@ use mathlib.Core.Path.{_≡_, refl, _∙_}
 use mathlib.Core.Bool.{false, not}
 use mathlib.Core.List.{List, [], _∷_}
 use Prim.Native.Nat.{ℕ}
+use native.Mathlib.Omega.{arith}
 use lib.Dec.{T, eqb}
 use borrow.Author.Tests.{ne-eqb}
 use mir.Val.{hasKey}
@@ -23,6 +24,13 @@ tag-is Other = refl
 -- a union whose tag is one of `keys` is not of a case that is none of them
 pub not-of : (keys : List ℕ) (k : ℕ) (u : JointUnion) → T (not (hasKey keys k)) → OneOf keys (tagOf the-type u) → eqb (caseOf u) k ≡ false
 not-of keys k u out h = ne-eqb (caseOf u) k (λ e. miss keys k out (rw (← e, ← tag-is u) h))
+
+-- a union with the tag of the empty case is the empty case
+pub tag-other : (u : JointUnion) → tagOf the-type u ≡ 3 → u ≡ Other
+tag-other (Revolute r) e = absurd (omega arith)
+tag-other (Spherical r) e = absurd (omega arith)
+tag-other (Weld r) e = absurd (omega arith)
+tag-other Other e = refl
 
 pub revolute-case : (u : JointUnion) → isRevolute u ≡ eqb (caseOf u) 0
 revolute-case (Revolute r) = refl

@@ -7,7 +7,8 @@ use mir.ValLaws.{toZ-ofZ}
 use borrow.Author.Needs.{needs}
 use Rattle.joint.specs.declared.index.Indices.{Indices}
 use Rattle.joint.specs.Index.{indicesOf}
-use Rattle.joint.proofs.Signs.{bits, tag-other}
+use Rattle.records.proofs.Cases.{tag-other}
+use Rattle.joint.proofs.Signs.{bits}
 use Rattle.joint.proofs.index.indices_of.Statement.{statement}
 use Rattle.joint.proofs.index.indices_of.Tie as tie
 

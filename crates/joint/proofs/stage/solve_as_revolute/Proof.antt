@@ -1,14 +1,14 @@
 -- `stage::solve_as_revolute` equals its definition. Assumes nothing.
-use mathlib.Core.Path.{refl}
+use mathlib.Core.List.{[], _∷_}
 use borrow.Author.Needs.{needs}
 use Rattle.joint.specs.Stage.{solveJoint, solveAs}
-use Rattle.joint.proofs.Signs.{not-of}
+use Rattle.records.proofs.Cases.{not-of}
 use Rattle.joint.proofs.stage.solve_as_revolute.Statement.{statement}
 use Rattle.joint.proofs.stage.solve_as_revolute.Tie as tie
 
 returns : tie.Need-returns
 unfolding solveAs
-returns c = rw (not-of 0 1 2 3 (c .before .before .args .joint .«union_») refl refl refl (c .before .match .keys2), ← (c .velocities-of .ensures))
+returns c = rw (not-of (1 ∷ 2 ∷ 3 ∷ []) 0 (c .before .before .args .joint .«union_») tt (c .before .match .keys2), ← (c .velocities-of .ensures))
 
 returns-2 : tie.Need-returns-2
 unfolding solveAs solveJoint
