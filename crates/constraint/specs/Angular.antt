@@ -51,7 +51,7 @@ angularRow s mass oldImpulse m v =
     let impulse = softImpulse3 s (mulMv mass (add cdot (s .bias))) oldImpulse in
     row3 (add oldImpulse impulse) (applyAngular m impulse v)
 
--- revolute's limit, spherical's twist limit: the lower row, then the upper row, both at the twist angle of the start
+-- revolute's limit, spherical's twist limit: the lower row, then the upper row, both at one angle, which is the twist angle of the start
 unfoldable pub twistLimitRows : Bool → Float → Float → Float → Softness → Float → Bool → Float → Vec3 → Float → Float → InvMasses → Velocities → LimitRows
 twistLimitRows worked angle lowerAngle upperAngle s invH useBias mass axis oldLower oldUpper m v =
     let lower = lowerLimitRow (limitBias (angle ⊖ lowerAngle) s invH useBias) mass axis oldLower m v in

@@ -107,7 +107,7 @@ coneRow worked swingAngle coneAngle s invH useBias swingMass swingAxis oldImpuls
     let c = coneAngle ⊖ swingAngle in
     cond (not worked) (axialRow oldImpulse v) (upperLimitRow (limitBias c s invH useBias) swingMass swingAxis oldImpulse m v)
 
--- Point, with its bias: worked with fixed rotation too.
+-- Point, with its bias (`pointBias`: softened where the call has bias); worked with fixed rotation too.
 unfoldable pub pointRow : SoftBias3 → Vec3 → Vec3 → Vec3 → InvMasses → Velocities → Row3
 pointRow s rA rB oldImpulse m v =
     let cdot = pointCdot rA rB v in
