@@ -13,7 +13,8 @@ use Rattle.scene.specs.declared.Scene.{Scene}
 use Rattle.scene.specs.Calls.{call, calls}
 use Rattle.scene.specs.Plain.{runCalls}
 use Rattle.places.specs.Places.{withIdentity}
-use Rattle.calls.proofs.Turn.{remade, Turned}
+use Rattle.calls.specs.Remade.{remade}
+use Rattle.calls.proofs.Turn.{Turned}
 
 -- ---- the call at a byte
 
@@ -47,22 +48,25 @@ pub midst-start : (s : Scene) (l : List ℕ) (bs : List BodyState) → length (s
 midst-start s l bs b j e = record { us = s .bodies; holds = e; long-bodies = b; long-joints = j; made = refl }
 
 module _ (s : Scene) (l : List ℕ) (js : List JointSim) (bs : List BodyState) (k : ℕ) (w : Midst s l js bs k) where
-  pub midst-more : (ws : List BodyState) (at : ℕ) (n : JointSim) (next : List JointSim) → 2 * k + 1 < length l
-      → Turned s js (w .us) ws (getD l (2 * k) 0) (getD l (2 * k + 1) 0) at n
+  pub midst-more : (slot stage : ℕ) (ws : List BodyState) (at : ℕ) (n : JointSim) (next : List JointSim) → 2 * k + 1 < length l
+      → slot ≡ getD l (2 * k) 0
+      → stage ≡ getD l (2 * k + 1) 0
+      → Turned s js (w .us) ws slot stage at n
       → next ≡ set js at n
       → Midst s l next ws (k + 1)
-  midst-more ws at n next h t e =
+  midst-more slot stage ws at n next h es et t e =
       let twice : 2 * (k + 1) ≡ 2 * k + 2 = omega arith in
+      let here : calls (drop (2 * k) l) ≡ call slot stage ∷ calls (drop (2 * k + 2) l) = rw (es, et) (calls-here l (2 * k) h) in
       record {
         us = t .left;
         holds = t .holds;
         long-bodies = t .long;
         long-joints = ap length e ∙ length-set js at n ∙ w .long-joints;
-        made = rw twice (ap (runCalls (calls (drop (2 * k + 2) l))) (ap (remade s (t .left)) e ∙ t .stepped) ∙ (rw (calls-here l (2 * k) h) at (w .made)));
+        made = rw twice (ap (runCalls (calls (drop (2 * k + 2) l))) (ap (remade s (t .left)) e ∙ t .stepped) ∙ (rw here at (w .made)));
       }
 
-  pub midst-done : (are : List BodyState) → length l ≤ 2 * k + 1 → are ≡ take 32 bs → remade s are js ≡ runCalls (calls l) s
+  pub midst-done : length l ≤ 2 * k + 1 → remade s (take 32 bs) js ≡ runCalls (calls l) s
   unfolding withIdentity
-  midst-done are h e =
-      let same : are ≡ w .us = e ∙ rw (w .holds) (take-at (w .us) (identityBodyState ∷ []) 32 (w .long-bodies)) in
+  midst-done h =
+      let same : take 32 bs ≡ w .us = rw (w .holds) (take-at (w .us) (identityBodyState ∷ []) 32 (w .long-bodies)) in
       ap (λ x. remade s x js) same ∙ (rw (calls-end l (2 * k) h) at (w .made))

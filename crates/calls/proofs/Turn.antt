@@ -28,11 +28,8 @@ use Rattle.scene.specs.Scene.{stateAt, store}
 use Rattle.scene.specs.Calls.{call}
 use Rattle.scene.specs.Plain.{storeBoth, step}
 use Rattle.places.specs.Places.{bodyPlace, codeIn, stageCode, jointPlace, withIdentity}
+use Rattle.calls.specs.Remade.{remade}
 use Rattle.places.proofs.Elements.{getD-any, joint-place-in, seen-is, kept-is, store-long}
-
--- a scene with other bodies and joints
-abbrev pub remade : Scene → List BodyState → List JointSim → Scene
-remade s bodies joints = record { joints = joints; bodies = bodies; «joint_count» = s .«joint_count»; «body_count» = s .«body_count»; context = s .context }
 
 -- what the loop's match leaves: the joint of the slot as the stage r left it, and the velocities
 pub record Worked (js : List JointSim) (at : ℕ) (d : JointSim) (r : Staged) (next : List JointSim) (v : Velocities) : Type 0 where

@@ -17,7 +17,7 @@ bodyPlace (pos n) = cond (ltb n 32) n 32
 bodyPlace (negsuc n) = 32
 
 abbrev pub placesOf : JointUnion → Places
-placesOf union = record { a = bodyPlace (indexA union); b = bodyPlace (indexB union) }
+placesOf union = record { «place_a» = bodyPlace (indexA union); «place_b» = bodyPlace (indexB union) }
 
 -- a code, and 6 behind the last slot, where there is no joint
 unfoldable pub codeIn : ℕ → ℕ → ℕ

@@ -8,11 +8,12 @@ use records::body::BodyState;
 use records::body::IDENTITY_BODY_STATE;
 use records::joint::JointSim;
 use records::joint::JointUnion;
+use scene::Scene;
 
 // The places of a joint's two bodies in an array that ends with the identity state.
 pub struct Places {
-    pub a: usize,
-    pub b: usize,
+    pub place_a: usize,
+    pub place_b: usize,
 }
 
 // An index's place among 32 bodies and the identity state after them: that of the identity state for
@@ -27,13 +28,13 @@ pub fn body_place(index: i32) -> usize
 }
 
 pub fn places_of(joint: JointSim) -> Places
-    ensures { λ r. ⌜ (r .a < 33) × (r .b < 33) × (r ≡ D.placesOf (joint .«union_»)) ⌝ }
+    ensures { λ r. ⌜ (r .«place_a» < 33) × (r .«place_b» < 33) × (r ≡ D.placesOf (joint .«union_»)) ⌝ }
 {
     let union_ = joint.union_;
     let i = indices_of(union_);
     Places {
-        a: body_place(i.a),
-        b: body_place(i.b),
+        place_a: body_place(i.a),
+        place_b: body_place(i.b),
     }
 }
 
@@ -79,14 +80,14 @@ pub fn joint_place(slot: u8) -> usize
     if place < 32 { place } else { 0 }
 }
 
-// The bodies, and the identity state after them.
-pub fn with_identity(bodies: [BodyState; 32]) -> [BodyState; 33]
-    ensures { λ r. ⌜ r ≡ D.withIdentity bodies ⌝ }
+// The bodies of a scene, and the identity state after them.
+pub fn with_identity(scene: Scene) -> [BodyState; 33]
+    ensures { λ r. ⌜ r ≡ D.withIdentity (scene .bodies) ⌝ }
 {
     let mut out = [IDENTITY_BODY_STATE; 33];
     let mut k: usize = 0;
     while k < 32 {
-        let body = bodies[k];
+        let body = scene.bodies[k];
         out[k] = body;
         k += 1;
     }

@@ -25,7 +25,7 @@ returns c =
     let g : SFits w32 (i .result .b) = record { sfits = told .struct-told .given .1 .0 .1 } in
     let a = at-bits bodyPlace f (ap (λ x. x .a) (i .ensures)) (first .body-place .ensures .1) in
     let b = at-bits bodyPlace g (ap (λ x. x .b) (i .ensures)) (c .body-place2 .ensures .1) in
-    (first .body-place .ensures .0, c .body-place2 .ensures .0, λ k. record { a = a k; b = b k })
+    (first .body-place .ensures .0, c .body-place2 .ensures .0, λ k. record { «place_a» = a k; «place_b» = b k })
 
 pub places-of-spec : {M : Type 1} → statement M
 places-of-spec = tie.close (tie.spec indices-of-requires body-place-requires body-place-requires-2 returns)

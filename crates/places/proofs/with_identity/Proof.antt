@@ -3,18 +3,18 @@ use mathlib.Core.Path.{_≡_, refl}
 use mathlib.Core.List.{_++_}
 use Prim.Native.Nat.{_-_, _≤_, _<_}
 use native.Mathlib.Omega.{arith}
-use lib.ListN.{length, take, drop, replicate, length-replicate}
+use lib.ListN.{take, drop, replicate, length-replicate}
 use borrow.Author.Needs.{needs}
 use Rattle.records.specs.Body.{identityBodyState}
-use Rattle.places.proofs.Elements.{fill-more, fill-33}
+use Rattle.places.proofs.Elements.{bodies-long, fill-more, fill-33}
 use Rattle.places.proofs.with_identity.Statement.{statement}
 use Rattle.places.proofs.with_identity.Tie as tie
 
 abbrev Inv-loop : tie.InvT-loop
-Inv-loop bodies out₀ k₀ out k = (k ≤ 32) × (out ≡ take k bodies ++ drop k out₀)
+Inv-loop scene out₀ k₀ out k = (k ≤ 32) × (out ≡ take k (scene .bodies) ++ drop k out₀)
 
 abbrev μ-loop : tie.MeasureT-loop
-μ-loop bodies out₀ k₀ out k = 32 - k
+μ-loop scene out₀ k₀ out k = 32 - k
 
 loop-holds : tie.Need-loop-holds Inv-loop μ-loop
 loop-holds c = (search needs, refl)
@@ -22,8 +22,8 @@ loop-holds c = (search needs, refl)
 mul-body : tie.Need-mul-body Inv-loop μ-loop
 mul-body c = search needs
 
-array-copy-out-body : tie.Need-array-copy-out-body Inv-loop μ-loop
-array-copy-out-body c = search needs
+element-copy-out-body : tie.Need-element-copy-out-body Inv-loop μ-loop
+element-copy-out-body c = search needs
 
 mul-out : tie.Need-mul-out Inv-loop μ-loop
 mul-out c = search needs
@@ -41,16 +41,16 @@ loop-again : tie.Need-loop-again Inv-loop μ-loop
 loop-again c =
     let l = c .before .before in
     let a = l .before .args in
-    let m : length (a .t1) ≡ 32 = search needs in
+    let m = bodies-long (a .t1) (l .before .good .0 .1 .1 .1 .0 .1 .0 .1) in
     let t : l .loop .k < 32 = c .before .loop-test .taken in
-    (search needs, fill-more (a .t1) (replicate 33 identityBodyState) (l .loop .out) (l .loop .k) _ (l .loop .inv .1) (omega arith) (rw (length-replicate 33 identityBodyState) (omega arith)))
+    (search needs, fill-more (a .t1 .bodies) (replicate 33 identityBodyState) (l .loop .out) (l .loop .k) _ (l .loop .inv .1) (omega arith) (rw (length-replicate 33 identityBodyState) (omega arith)))
 
 returns : tie.Need-returns Inv-loop μ-loop
 returns c =
     let l = c .before in
     let a = l .before .args in
     let k : l .loop .k ≡ 32 = omega (arith, l .loop .inv .0, c .loop-test .left) in
-    fill-33 (a .t1) (l .loop .out) (l .loop .k) (search needs) k (l .loop .inv .1)
+    fill-33 (a .t1 .bodies) (l .loop .out) (l .loop .k) (bodies-long (a .t1) (l .before .good .0 .1 .1 .1 .0 .1 .0 .1)) k (l .loop .inv .1)
 
 pub with-identity-spec : {M : Type 1} → statement M
-with-identity-spec = tie.close (tie.spec Inv-loop μ-loop loop-holds mul-body array-copy-out-body mul-out array-set-from-out add-k loop-less loop-again returns)
+with-identity-spec = tie.close (tie.spec Inv-loop μ-loop loop-holds mul-body element-copy-out-body mul-out array-set-from-out add-k loop-less loop-again returns)
