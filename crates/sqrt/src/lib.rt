@@ -4,16 +4,17 @@ ghost use Prim.Native.Nat.{_+_, _*_, _%_, _^_, _≤_, _<_};
 ghost use lib.Ieee.{binary32, ofBits};
 ghost use Rattle.sqrt.specs.Sqrt as D;
 ghost use Rattle.sqrt.specs.Steps.{Unpacks, NearestRoot};
-use crate::quadratics::INTERVAL;
-use crate::quadratics::INTERVALS;
-use crate::quadratics::Quadratic;
-use crate::quadratics::UNIT;
-use crate::quadratics::quadratic_at;
+use crate::cubics::Cubic;
+use crate::cubics::INTERVAL;
+use crate::cubics::INTERVALS;
+use crate::cubics::SQUARE_UNIT;
+use crate::cubics::UNIT;
+use crate::cubics::cubic_at;
 use std::num::wrapping_add_u64;
 use std::num::wrapping_sub_u32;
 use std::num::wrapping_sub_u64;
 
-mod quadratics;
+mod cubics;
 
 // The patterns of three `f32`s.
 const LEAST_NORMAL: u32 = 0x0080_0000;
@@ -71,11 +72,12 @@ fn unpack_subnormal(b: u64) -> Unpacked
 fn estimate(b: u64) -> u64
     ensures { λ r. ⌜ r < 2 ^ 32 ⌝ }
 {
-    let Quadratic(c2, c1, c0) = quadratic_at(b / INTERVAL % INTERVALS);
+    let Cubic(c3, c2, c1, c0) = cubic_at(b / INTERVAL % INTERVALS);
     let d = b % INTERVAL;
-    let d2 = d * d / INTERVAL;
+    let d2 = d * d / SQUARE_UNIT;
+    let bend = wrapping_sub_u32(c2, ((c3 as u64) * d / INTERVAL) as u32);
     let linear = wrapping_add_u64(c0, (c1 as u64) * d);
-    wrapping_sub_u64(linear, (c2 as u64) * d2) / UNIT
+    wrapping_sub_u64(linear, (bend as u64) * d2) / UNIT
 }
 
 // A guess that is not above the nearest root: the one given, or what Heron's steps make of it.
