@@ -10,7 +10,7 @@ use Rattle.math_functions.specs.Float.{lit, zero, one, two, minPositive,
 use Rattle.math_functions.specs.Scalar.{atan3, atan5, atan7, atan9, halfPi, atanPi}
 
 -- the float nearest to digits / 10 ^ places
-abbrev decimal : ℕ → ℕ → Float
+abbrev pub decimal : ℕ → ℕ → Float
 decimal digits places = Ieee.round binary32 false digits (10 ^ places)
 
 pub zero-is : zero ≡ fin false 0 (pos 0)
