@@ -1,23 +1,27 @@
--- Filling an array of 32 elements one after the other: what holds of each that is stored. Assumes nothing.
-use mathlib.Core.Path.{_≡_, sym, subst, _∙_}
+-- Filling an array of 32 elements one after the other with the values of a function. Assumes nothing.
+use mathlib.Core.Path.{_≡_, refl, sym, subst, _∙_}
 use mathlib.Core.List.{List}
 use Prim.Native.Nat.{ℕ, _+_, _<_}
+use native.Mathlib.Numerals.{add-one}
 use native.Mathlib.Omega.{arith}
-use lib.ListN.{length, getD, set, replicate, length-set, length-replicate}
-use lib.Seq.{getD-set-same, getD-set-other}
-use borrow.Author.Count.{below-more}
+use lib.ListN.{length, take, set, replicate, length-set, length-replicate}
+use lib.Seq.{take-all, take-suc-set}
+use Rattle.bench_wall.specs.Wall.{each}
 
-module _ {A : Type 0} (P : ℕ → A → Type 0) (d : A) where
+module _ {A : Type 0} (f : ℕ → A) where
   -- the first k elements are what they must be
   abbrev pub Filled : List A → ℕ → Type 0
-  Filled l k = (length l ≡ 32) × ((i : ℕ) → i < k → P i (getD l i d))
+  Filled l k = (length l ≡ 32) × (take k l ≡ each k f)
 
   pub filled-none : (a : A) → Filled (replicate 32 a) 0
-  filled-none a = (length-replicate 32 a, λ i h. absurd (omega arith))
+  unfolding each
+  filled-none a = (length-replicate 32 a, refl)
 
-  pub filled-more : (l : List A) (k : ℕ) (a : A) → k < 32 → Filled l k → P k a → Filled (set l k a) (k + 1)
-  filled-more l k a h (n, f) p =
-      let m : k < length l = omega arith in (
-        length-set l k a ∙ n,
-        below-more (λ i. P i (getD (set l k a) i d)) k (λ i g. subst (P i) (sym (getD-set-other l k i a d (λ e. omega arith))) (f i g)) (subst (P k) (sym (getD-set-same l k a d m)) p),
-      )
+  pub filled-more : (l : List A) (k : ℕ) (a : A) → k < 32 → a ≡ f k → Filled l k → Filled (set l k a) (k + 1)
+  unfolding each
+  filled-more l k a h e (n, p) =
+      let m : k < length l = omega arith in
+      (length-set l k a ∙ n, rw (add-one k, take-suc-set l k a m, p, e))
+
+  pub filled-all : (l : List A) (k : ℕ) → k ≡ 32 → Filled l k → l ≡ each 32 f
+  filled-all l k e (n, p) = sym (take-all 32 l (omega arith)) ∙ subst (λ m. take m l ≡ each m f) e p

@@ -1,2 +1,3 @@
+pub mod Arguments
 pub mod Sum
 pub mod Wall

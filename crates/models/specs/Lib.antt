@@ -1,2 +1,6 @@
 pub mod Model
-pub mod Facts
+pub mod Body
+pub mod Base
+pub mod Door
+pub mod Hip
+pub mod Strut

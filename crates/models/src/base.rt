@@ -1,4 +1,6 @@
 // The part of a joint that all kinds share.
+ghost use mathlib.Core.Path.{_≡_};
+ghost use Rattle.models.specs.Base as D;
 use crate::STEP;
 use math_functions::types::MAT3_ZERO;
 use math_functions::types::QUAT_IDENTITY;
@@ -40,7 +42,9 @@ const FRAME_B: Transform = Transform {
 pub const POST: u8 = 32;
 
 // Numbers, frames and the softness of a stiff joint.
-pub fn joint_base(type_: JointType, joint: u8, body_a: u8, body_b: u8) -> JointBase {
+pub fn joint_base(type_: JointType, joint: u8, body_a: u8, body_b: u8) -> JointBase
+    ensures { λ r. ⌜ r ≡ D.jointBase «type_» joint «body_a» «body_b» ⌝ }
+{
     let hertz = 60.0;
     let damping_ratio = 2.0;
     JointBase {

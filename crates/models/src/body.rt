@@ -1,6 +1,6 @@
 // The bodies of the models, and their states.
-ghost use lib.IntN.{pos};
-ghost use Rattle.models.specs.Model.{Awake, Fixed, Moves};
+ghost use mathlib.Core.Path.{_≡_};
+ghost use Rattle.models.specs.Body as D;
 use math_functions::types::MAT3_ZERO;
 use math_functions::types::Matrix3;
 use math_functions::types::QUAT_IDENTITY;
@@ -33,7 +33,7 @@ const SLAB: Matrix3 = Matrix3 {
 
 // What stands fast: it is in the set of the static bodies, and has no state.
 pub fn fixed_body() -> BodyRecord
-    ensures { λ r. ⌜ Fixed r ⌝ }
+    ensures { λ r. ⌜ r ≡ D.fixedBody ⌝ }
 {
     BodyRecord {
         set_index: 0,
@@ -48,7 +48,7 @@ pub fn fixed_body() -> BodyRecord
 
 // A slab at an index of the awake set, with its centre at x.
 pub fn slab(index: u8, x: f32) -> BodyRecord
-    ensures { λ r. ⌜ Awake (pos index) r ⌝ }
+    ensures { λ r. ⌜ r ≡ D.slab index x ⌝ }
 {
     BodyRecord {
         set_index: AWAKE_SET,
@@ -63,7 +63,7 @@ pub fn slab(index: u8, x: f32) -> BodyRecord
 
 // A dynamic body that moves and turns, the faster the larger `speed`.
 pub fn moving(speed: f32) -> BodyState
-    ensures { λ r. ⌜ Moves r ⌝ }
+    ensures { λ r. ⌜ r ≡ D.moving speed ⌝ }
 {
     BodyState {
         linear_velocity: Vec3 {

@@ -1,9 +1,7 @@
 // A door on its hinge: a revolute joint whose spring shuts the door, whose motor opens it, and whose
 // limits stop it on both sides.
 ghost use mathlib.Core.Path.{_≡_};
-ghost use lib.IntN.{pos};
-ghost use Rattle.records.specs.Joint.{caseOf};
-ghost use Rattle.models.specs.Model.{OfCase, Fixed, Awake};
+ghost use Rattle.models.specs.Door as D;
 use crate::Model;
 use crate::base::POST;
 use crate::base::joint_base;
@@ -55,12 +53,14 @@ const HINGE: RevoluteJoint = RevoluteJoint {
     enable_limit: true,
 };
 
-fn hinge() -> RevoluteJoint {
+fn hinge() -> RevoluteJoint
+    ensures { λ r. ⌜ r ≡ D.hinge ⌝ }
+{
     HINGE
 }
 
 fn hinge_joint(leaf: u8) -> JointSim
-    ensures { λ r. ⌜ caseOf (r .«union_») ≡ 0 ⌝ }
+    ensures { λ r. ⌜ r ≡ D.hingeJoint leaf ⌝ }
 {
     JointSim {
         base: joint_base(JointType::Revolute, 0, POST, leaf),
@@ -70,7 +70,7 @@ fn hinge_joint(leaf: u8) -> JointSim
 
 // The post stands fast, and the leaf is at an index of the awake set.
 pub fn door(leaf: u8) -> Model
-    ensures { λ r. ⌜ OfCase 0 r × Fixed (r .«body_a») × Awake (pos leaf) (r .«body_b») ⌝ }
+    ensures { λ r. ⌜ r ≡ D.door leaf ⌝ }
 {
     Model {
         joint: hinge_joint(leaf),

@@ -1,9 +1,7 @@
 // A hip in its socket: a spherical joint with a spring and a motor, whose twist is limited on both
 // sides and whose swing by a cone.
 ghost use mathlib.Core.Path.{_≡_};
-ghost use lib.IntN.{pos};
-ghost use Rattle.records.specs.Joint.{caseOf};
-ghost use Rattle.models.specs.Model.{OfCase, Awake};
+ghost use Rattle.models.specs.Hip as D;
 use crate::Model;
 use crate::base::joint_base;
 use crate::body::slab;
@@ -75,12 +73,14 @@ const SOCKET: SphericalJoint = SphericalJoint {
     enable_twist_limit: true,
 };
 
-fn socket() -> SphericalJoint {
+fn socket() -> SphericalJoint
+    ensures { λ r. ⌜ r ≡ D.socket ⌝ }
+{
     SOCKET
 }
 
 fn socket_joint(pelvis: u8, thigh: u8) -> JointSim
-    ensures { λ r. ⌜ caseOf (r .«union_») ≡ 1 ⌝ }
+    ensures { λ r. ⌜ r ≡ D.socketJoint pelvis thigh ⌝ }
 {
     JointSim {
         base: joint_base(JointType::Spherical, 1, pelvis, thigh),
@@ -90,7 +90,7 @@ fn socket_joint(pelvis: u8, thigh: u8) -> JointSim
 
 // The pelvis and the thigh are at indices of the awake set.
 pub fn hip(pelvis: u8, thigh: u8) -> Model
-    ensures { λ r. ⌜ OfCase 1 r × Awake (pos pelvis) (r .«body_a») × Awake (pos thigh) (r .«body_b») ⌝ }
+    ensures { λ r. ⌜ r ≡ D.hip pelvis thigh ⌝ }
 {
     Model {
         joint: socket_joint(pelvis, thigh),

@@ -21,9 +21,8 @@ pub mod door;
 pub mod hip;
 pub mod strut;
 
-// A joint before prepare, and what prepare reads of its two bodies. The models promise what a scene
-// needs of them: the joint's case, and which bodies are awake and at which index. The other figures
-// are an example's, and nothing rests on them.
+// A joint before prepare, and what prepare reads of its two bodies. The figures are an example's;
+// specs/ has each of them.
 pub struct Model {
     pub joint: JointSim,
     pub body_a: BodyRecord,

@@ -1,8 +1,6 @@
 // A strut welded to its pier: a weld joint that gives a little, in place and in angle.
 ghost use mathlib.Core.Path.{_≡_};
-ghost use lib.IntN.{pos};
-ghost use Rattle.records.specs.Joint.{caseOf};
-ghost use Rattle.models.specs.Model.{OfCase, Fixed, Awake};
+ghost use Rattle.models.specs.Strut as D;
 use crate::Model;
 use crate::base::POST;
 use crate::base::joint_base;
@@ -45,12 +43,14 @@ const WELD: WeldJoint = WeldJoint {
     angular_mass: MAT3_ZERO,
 };
 
-fn weld_record() -> WeldJoint {
+fn weld_record() -> WeldJoint
+    ensures { λ r. ⌜ r ≡ D.weldRecord ⌝ }
+{
     WELD
 }
 
 fn weld_joint(strut: u8) -> JointSim
-    ensures { λ r. ⌜ caseOf (r .«union_») ≡ 2 ⌝ }
+    ensures { λ r. ⌜ r ≡ D.weldJoint strut ⌝ }
 {
     JointSim {
         base: joint_base(JointType::Weld, 2, POST, strut),
@@ -60,7 +60,7 @@ fn weld_joint(strut: u8) -> JointSim
 
 // The pier stands fast, and the strut is at an index of the awake set.
 pub fn strut(strut: u8) -> Model
-    ensures { λ r. ⌜ OfCase 2 r × Fixed (r .«body_a») × Awake (pos strut) (r .«body_b») ⌝ }
+    ensures { λ r. ⌜ r ≡ D.strut strut ⌝ }
 {
     Model {
         joint: weld_joint(strut),

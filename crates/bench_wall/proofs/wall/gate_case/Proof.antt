@@ -1,5 +1,4 @@
--- `wall::gate_case` equals its definition, and is a case. Assumes nothing.
-use borrow.Author.Needs.{needs}
+-- `wall::gate_case` equals its definition. Assumes nothing.
 use borrow.Author.Tests.{lt-ltb, le-ltb}
 use Rattle.bench_wall.specs.Wall.{gateCase}
 use Rattle.bench_wall.proofs.wall.gate_case.Statement.{statement}
@@ -7,11 +6,11 @@ use Rattle.bench_wall.proofs.wall.gate_case.Tie as tie
 
 returns : tie.Need-returns
 unfolding gateCase
-returns c = (search needs, rw (lt-ltb _ _ (c .if1 .taken)))
+returns c = rw (lt-ltb _ _ (c .if1 .taken))
 
 returns-2 : tie.Need-returns-2
 unfolding gateCase
-returns-2 c = (search needs, rw (le-ltb _ _ (c .if1 .left)))
+returns-2 c = rw (le-ltb _ _ (c .if1 .left))
 
 pub gate-case-spec : {M : Type 1} → statement M
 gate-case-spec = tie.close (tie.spec returns returns-2)
