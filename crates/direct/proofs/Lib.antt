@@ -1,3 +1,4 @@
+pub mod Indices
 pub mod Again
 pub mod Lent
 pub mod Pure

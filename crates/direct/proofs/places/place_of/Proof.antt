@@ -1,19 +1,14 @@
 -- `places::place_of` equals its definition. Assumes nothing.
 use mathlib.Core.Path.{_≡_, refl}
-use mathlib.Core.Bool.{true, false, true≢false}
+use mathlib.Core.Bool.{false, true≢false}
 use Prim.Native.Nat.{ℕ}
-use native.Mathlib.Omega.{arith}
 use lib.IntN.{ℤ, pos, negsuc, natAbs}
 use lib.Signed.{ltZ}
-use borrow.Author.Tests.{ltb-true}
 use Rattle.direct.specs.Steps.{placeOf}
 use Rattle.joint.proofs.Signs.{bits, at-bits, cast-fits}
+use Rattle.direct.proofs.Indices.{none}
 use Rattle.direct.proofs.places.place_of.Statement.{statement}
 use Rattle.direct.proofs.places.place_of.Tie as tie
-
-none : (n : ℕ) (z : ℤ) → ltZ z (pos 0) ≡ true → n ≡ placeOf n z
-none n (pos k) h = absurd (omega (arith, ltb-true k 0 h))
-none n (negsuc k) h = refl
 
 at : (n : ℕ) (z : ℤ) → ltZ z (pos 0) ≡ false → natAbs z ≡ placeOf n z
 at n (pos k) h = refl
