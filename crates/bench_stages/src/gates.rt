@@ -4,6 +4,7 @@ ghost use Prim.Native.Nat.{_<_};
 use bench_wall::sum::add_gate;
 use bench_wall::wall::body_before;
 use bench_wall::wall::unprepared_wall;
+use constraint::answer::Prepared;
 use constraint::answer::Solved;
 use records::body::BodyRecord;
 use records::body::BodyState;
@@ -57,6 +58,11 @@ pub fn wall_bodies() -> [BodyRecord; 33] {
         k += 1;
     }
     bodies
+}
+
+// The joint that a prepare hands back.
+pub fn prepared_joint(p: Prepared) -> JointSim {
+    p.joint
 }
 
 pub fn solved_joint(s: Solved) -> JointSim {
