@@ -170,11 +170,20 @@ class Patterns(Types):
         parts = []
         if self.take("("):
             parts = self.many(")", self.pattern)
-        elif self.peek() == "{":
-            raise SyntaxFault(f"a pattern with named fields, at {start}")
+        elif self.take("{"):
+            parts = self.many("}", self.field_pattern)
+            return Node("fields", start, self.last(), words=words, parts_of=parts)
         elif len(words) == 1 and not words[0][0].isupper():
             return Node("bind", start, self.last(), name=words[0])
         return Node("variant", start, self.last(), words=words, parts_of=parts)
+
+    def field_pattern(self):
+        """a field by its name, bound to a local of that name or taken apart"""
+        start = self.here()
+        name = self.word()
+        part = self.pattern() if self.take(":") else Node("bind", start, self.last(), name=name)
+        part.field = name
+        return part
 
     def plain_pattern(self, start):
         self.take("-")

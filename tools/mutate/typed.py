@@ -327,6 +327,10 @@ class Typer:
         """the locals that a pattern makes of a value"""
         if pattern.kind == "bind":
             self.locals[pattern.name] = t
+        elif pattern.kind == "fields":
+            fields = self.names.structs.get(t, {})
+            for part in pattern.parts_of:
+                self.bind(part, fields.get(part.field))
         elif pattern.kind == "variant":
             held = self.names.variants.get(self.enum_of(pattern.words), {}).get(pattern.words[-1], [])
             for part, inner in zip(pattern.parts_of, held):
