@@ -17,11 +17,10 @@ use Rattle.scene.specs.declared.Scene.{Scene}
 use Rattle.scene.specs.declared.Verdict.{Verdict}
 use Rattle.records.specs.Joint.{unusedJoint}
 use Rattle.scene.specs.Calls.{call, calls}
-use Rattle.scene.specs.Plain.{jointCause, callCause, cause, verdictOf, firstCause, earlyCause, verdict, Accepted, runCalls, sameVelocities, sameBelow, isStill, done, refused, plainRun}
+use Rattle.scene.specs.Plain.{jointCause, cause, verdictOf, firstCause, earlyCause, verdict, Accepted, runCalls, sameVelocities, sameBelow, isStill, done, refused, plainRun}
 use Rattle.scene.specs.Accepted.{run-accepted, run-refused}
-use Rattle.call_list.specs.Causes.{jointCauses}
-use Rattle.places.specs.Places.{jointPlace}
-use Rattle.places.proofs.Elements.{getD-any, joint-place-in, fill-more}
+use Rattle.call_list.specs.Causes.{jointCauses, stageCause}
+use Rattle.places.proofs.Elements.{getD-any, fill-more}
 use Rattle.calls.proofs.Lists.{calls-here, calls-end}
 
 -- ---- the tests before the calls
@@ -66,24 +65,23 @@ module _ (l : List ℕ) (i : ℕ) (s : Scene) (p : ℕ) (z : Verdict) (q : first
   pub check-end : length l ≤ i → verdictOf 0 0 ≡ z
   check-end h = rw (calls-end l i (omega (arith, h))) at q
 
--- a call's cause, from the table of its joints' causes
-pub cause-is : (s : Scene) (causes : List ℕ) (slot stage at d c : ℕ) → length (s .joints) ≡ 32 → s .«joint_count» ≤ 32 → causes ≡ jointCauses s → at ≡ jointPlace slot
-    → c ≡ callCause (s .«joint_count») (getD causes at d) (call slot stage)
+-- a call's cause, where its slot is behind the last joint, and where it holds a joint, from the table of the joints' causes
+pub slot-cause-is : (s : Scene) (slot stage : ℕ) (b : Bool) → b ≡ leb (s .«joint_count») slot → b ≡ true → 4 ≡ cause s (call slot stage)
+unfolding cause
+slot-cause-is s slot stage b e t = rw (sym e ∙ t)
+
+pub within : (count slot : ℕ) (b : Bool) → b ≡ leb count slot → b ≡ false → slot < count
+within count slot b e f = leb-false count slot (sym e ∙ f)
+
+pub stage-cause-is : (s : Scene) (causes : List ℕ) (slot stage d c : ℕ) (b : Bool) → length (s .joints) ≡ 32 → s .«joint_count» ≤ 32 → causes ≡ jointCauses s → b ≡ leb (s .«joint_count») slot → b ≡ false
+    → c ≡ stageCause (getD causes slot d) stage
     → c ≡ cause s (call slot stage)
 unfolding cause jointCauses
-cause-is s causes slot stage at d c long low table here e = e ∙ by (leb (s .«joint_count») slot) refl
-  where
-    of : JointSim → ℕ
-    of joint = jointCause (s .«body_count») (joint .«union_»)
-
-    by : (b : Bool) → leb (s .«joint_count») slot ≡ b
-        → callCause (s .«joint_count») (getD causes at d) (call slot stage) ≡ callCause (s .«joint_count») (of (getD (s .joints) slot unusedJoint)) (call slot stage)
-    by true f = rw f
-    by false f =
-        let h : slot < 32 = omega (arith, leb-false (s .«joint_count») slot f) in
-        let wide : slot < length (map of (s .joints)) = rw (length-map (s .joints) of, long) h in
-        let same : getD causes at d ≡ of (getD (s .joints) slot unusedJoint) = rw (table, here ∙ joint-place-in slot h) (getD-any (map of (s .joints)) slot d (of unusedJoint) wide ∙ List·getD-map of (s .joints) slot unusedJoint) in
-        ap (λ x. callCause (s .«joint_count») x (call slot stage)) same
+stage-cause-is s causes slot stage d c b long low table e f is =
+    let of : JointSim → ℕ = λ joint. jointCause (s .«body_count») (joint .«union_») in
+    let wide : slot < length (map of (s .joints)) = rw (length-map (s .joints) of, long) (omega (arith, within (s .«joint_count») slot b e f, low)) in
+    let same : getD causes slot d ≡ of (getD (s .joints) slot unusedJoint) = rw table (getD-any (map of (s .joints)) slot d (of unusedJoint) wide ∙ List·getD-map of (s .joints) slot unusedJoint) in
+    is ∙ rw (sym e ∙ f) (ap (λ x. stageCause x stage) same)
 
 -- filling the table of causes
 pub causes-more : (s : Scene) (w : List ℕ) (k : ℕ) (d : JointSim) (c : ℕ) → length (s .joints) ≡ 32 → k < 32 → w ≡ take k (jointCauses s) ++ drop k (replicate 32 0)

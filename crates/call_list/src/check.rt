@@ -1,11 +1,10 @@
 // The tests of a run, made before anything runs.
 ghost use mathlib.Core.Path.{_≡_};
-ghost use Rattle.scene.specs.Calls.{call};
+ghost use lib.Dec.{leb};
 ghost use Rattle.records.specs.Joint.{isOther};
-ghost use Rattle.scene.specs.Plain.{jointCause, callCause, earlyCause, verdict};
-ghost use Rattle.call_list.specs.Causes.{jointCauses};
+ghost use Rattle.scene.specs.Plain.{jointCause, earlyCause, verdict};
+ghost use Rattle.call_list.specs.Causes.{jointCauses, stageCause};
 use joint::index::index_cause;
-use places::joint_place;
 use records::joint::JointUnion;
 use scene::Scene;
 use scene::Verdict;
@@ -47,13 +46,17 @@ pub fn joint_causes(scene: Scene) -> [u32; 32]
     causes
 }
 
-// The first cause of a call's refusal, or 0. `of_joint` is that of the slot's joint.
-pub fn call_cause(joint_count: u32, of_joint: u32, slot: u8, stage: u8) -> u32
-    ensures { λ r. ⌜ r ≡ callCause «joint_count» «of_joint» (call slot stage) ⌝ }
+// Whether a slot is behind the last joint.
+pub fn is_behind(joint_count: u32, slot: u8) -> bool
+    ensures { λ r. ⌜ r ≡ leb «joint_count» slot ⌝ }
 {
-    if joint_count <= slot as u32 {
-        return 4;
-    }
+    joint_count <= slot as u32
+}
+
+// The first cause of a refusal of a call whose slot holds a joint, or 0. `of_joint` is the joint's.
+pub fn stage_cause(of_joint: u32, stage: u8) -> u32
+    ensures { λ r. ⌜ r ≡ stageCause «of_joint» stage ⌝ }
+{
     if 2 < stage {
         return 5;
     }
@@ -96,9 +99,11 @@ pub fn check_list(scene: Scene, list: &[u8]) -> Verdict
     let mut place: u32 = 0;
     while i < n {
         let slot = list[i];
-        let at = joint_place(slot);
-        let of_joint = causes[at];
-        let cause = call_cause(scene.joint_count, of_joint, slot, list[i + 1]);
+        if is_behind(scene.joint_count, slot) {
+            return Verdict { number: 4, place };
+        }
+        let of_joint = causes[slot as usize];
+        let cause = stage_cause(of_joint, list[i + 1]);
         if cause != 0 {
             return Verdict {
                 number: cause,
