@@ -105,16 +105,14 @@ pub fn apply_warm(
 ) -> Velocities
     ensures { λ r. ⌜ r ≡ D.applyWarm m «r_a» «r_b» «linear_impulse» «angular_impulse» v ⌝ }
 {
+    let impulse_a = add(cross(r_a, linear_impulse), angular_impulse);
+    let w_a = sub(v.w_a, mul_mv(m.i_a, impulse_a));
+    let impulse_b = add(cross(r_b, linear_impulse), angular_impulse);
+    let w_b = add(v.w_b, mul_mv(m.i_b, impulse_b));
     Velocities {
         v_a: mul_sub(v.v_a, m.m_a, linear_impulse),
-        w_a: sub(
-            v.w_a,
-            mul_mv(m.i_a, add(cross(r_a, linear_impulse), angular_impulse)),
-        ),
+        w_a,
         v_b: mul_add(v.v_b, m.m_b, linear_impulse),
-        w_b: add(
-            v.w_b,
-            mul_mv(m.i_b, add(cross(r_b, linear_impulse), angular_impulse)),
-        ),
+        w_b,
     }
 }

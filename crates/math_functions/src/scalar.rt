@@ -80,8 +80,9 @@ pub fn atan2(y: f32, x: f32) -> f32
         r = 3.14159274 - r;
     }
 
+    // A return, so that the compiler keeps the branch
     if y < 0.0 {
-        r = -r;
+        return -r;
     }
 
     r

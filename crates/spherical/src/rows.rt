@@ -113,7 +113,7 @@ pub fn motor_row(
 }
 
 // The angles of the twist limits and of the cone, where their rows are worked. They wait for no
-// velocity, so a solve takes each a row ahead.
+// velocity, so a solve takes the cone's a row ahead.
 pub fn twist_angle_if(worked: bool, rel_q: Quat) -> f32
     ensures { λ r. ⌜ r ≡ Steps.twistAngleIf worked «rel_q» ⌝ }
 {

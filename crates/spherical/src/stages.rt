@@ -233,8 +233,8 @@ fn solve_bias(
     )
 }
 
-// What waits for no velocity (the angles, the anchors and the point row's bias) is computed a row
-// before the row that needs it, so that the processor has it to do while rows wait for each other.
+// What waits for no velocity (the cone's angle, the anchors and the point row's bias) is computed a
+// row before the row that needs it, so that the processor has it to do while rows wait for each other.
 pub fn solve_spherical(
     base: JointBase,
     mut joint: SphericalJoint,
@@ -251,8 +251,8 @@ pub fn solve_spherical(
     let rotation = solve_rotation(joint, state_a, state_b);
     let fixed = base.fixed_rotation;
     let spring = solve_spring(base, joint, rotation, m, v);
-    let angle = twist_angle_if(is_worked(joint.enable_twist_limit, fixed), rotation.rel_q);
     let motor = solve_motor(base, joint, h, m, spring.velocities);
+    let angle = twist_angle_if(is_worked(joint.enable_twist_limit, fixed), rotation.rel_q);
     let swing = swing_angle_if(is_worked(joint.enable_cone_limit, fixed), rotation.rel_q);
     let twist = solve_twist(base, joint, angle, inv_h, use_bias, m, motor.velocities);
     let r_a = rotate_vector(state_a.delta_rotation, joint.frame_a.p);
