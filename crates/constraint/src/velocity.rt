@@ -94,7 +94,8 @@ pub fn apply_point(m: InvMasses, r_a: Vec3, r_b: Vec3, impulse: Vec3, v: Velocit
     }
 }
 
-// A warm start: the linear impulse at r_a and r_b together with the angular impulse.
+// A warm start: the linear impulse at r_a and r_b together with the angular impulse. The angular
+// velocities come first: the run's loop then keeps fewer values on the stack (docs/PERFORMANCE.md).
 pub fn apply_warm(
     m: InvMasses,
     r_a: Vec3,
