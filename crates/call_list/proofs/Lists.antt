@@ -17,9 +17,9 @@ use Rattle.scene.specs.declared.Scene.{Scene}
 use Rattle.scene.specs.declared.Verdict.{Verdict}
 use Rattle.records.specs.Joint.{unusedJoint}
 use Rattle.scene.specs.Calls.{call, calls}
-use Rattle.scene.specs.Plain.{jointCause, cause, verdictOf, firstCause, earlyCause, verdict, Accepted, runCalls, sameVelocities, sameBelow, isStill, done, refused, plainRun}
+use Rattle.scene.specs.Plain.{jointCause, stageCause, cause, verdictOf, firstCause, earlyCause, verdict, Accepted, runCalls, sameVelocities, sameBelow, isStill, done, refused, plainRun}
 use Rattle.scene.specs.Accepted.{run-accepted, run-refused}
-use Rattle.call_list.specs.Causes.{jointCauses, stageCause}
+use Rattle.call_list.specs.Causes.{jointCauses}
 use Rattle.places.proofs.Elements.{getD-any, fill-more}
 use Rattle.calls.proofs.Lists.{calls-here, calls-end}
 

@@ -2,8 +2,8 @@
 ghost use mathlib.Core.Path.{_≡_};
 ghost use lib.Dec.{leb};
 ghost use Rattle.records.specs.Joint.{isOther};
-ghost use Rattle.scene.specs.Plain.{jointCause, earlyCause, verdict};
-ghost use Rattle.call_list.specs.Causes.{jointCauses, stageCause};
+ghost use Rattle.scene.specs.Plain.{jointCause, stageCause, earlyCause, verdict};
+ghost use Rattle.call_list.specs.Causes.{jointCauses};
 use joint::index::index_cause;
 use records::joint::JointUnion;
 use scene::Scene;

@@ -30,9 +30,13 @@ use Rattle.scene.specs.Calls.{Call, calls}
 abbrev pub jointCause : ℕ → JointUnion → ℕ
 jointCause bodyCount union = cond (isOther union) 1 (indexCause bodyCount union)
 
--- within a call the tests 4, 5, 1, 2, 3: the first cause that holds, or 0, where `ofJoint` is the first of 1, 2, 3
+-- the tests 5, 1, 2, 3, which are left for a call whose slot holds a joint, where `ofJoint` is the first of 1, 2, 3 that holds, or 0
+abbrev pub stageCause : ℕ → ℕ → ℕ
+stageCause ofJoint stage = cond (ltb 2 stage) 5 ofJoint
+
+-- within a call the tests 4, 5, 1, 2, 3: the first cause that holds, or 0
 abbrev pub callCause : ℕ → ℕ → Call → ℕ
-callCause jointCount ofJoint c = cond (leb jointCount (c .slot)) 4 (cond (ltb 2 (c .stage)) 5 ofJoint)
+callCause jointCount ofJoint c = cond (leb jointCount (c .slot)) 4 (stageCause ofJoint (c .stage))
 
 abbrev pub causeIn : ℕ → ℕ → JointUnion → Call → ℕ
 causeIn bodyCount jointCount union c = callCause jointCount (jointCause bodyCount union) c

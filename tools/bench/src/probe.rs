@@ -1,5 +1,5 @@
 //! `probe REPEATS`: chains of sums that do not wait for each other, so that a core has as much to do
-//! as it can. They take longer while another program has the core's other hardware thread.
+//! as it can. They take longer while the core is shared with another program.
 
 const TURNS: [u32; 6] = [5, 7, 11, 13, 17, 19];
 
