@@ -14,7 +14,8 @@ use Rattle.records.specs.declared.body.BodyState.{BodyState}
 use Rattle.records.specs.declared.joint.JointSim.{JointSim}
 use Rattle.scene.specs.declared.Scene.{Scene}
 use Rattle.models.specs.declared.Model.{Model}
-use Rattle.models.specs.Model.{step, prepared}
+use Rattle.joint.specs.Prepare.{prepareJoint}
+use Rattle.models.specs.Model.{step}
 use Rattle.models.specs.Body.{fixedBody, slab, moving}
 use Rattle.models.specs.Door.{door}
 use Rattle.models.specs.Hip.{hip}
@@ -44,7 +45,7 @@ unfoldable pub gate : ℕ → ℕ → Model
 gate kind k = record { joint = modelOf kind k .joint; «body_a» = bodyBefore k; «body_b» = gateBody k }
 
 unfoldable pub preparedJoint : ℕ → ℕ → JointSim
-preparedJoint kind k = prepared (gate kind k) step
+preparedJoint kind k = let m = gate kind k in prepareJoint (m .joint) step (m .«body_a») (m .«body_b») .joint
 
 unfoldable pub unpreparedJoint : ℕ → ℕ → JointSim
 unpreparedJoint kind k = modelOf kind k .joint

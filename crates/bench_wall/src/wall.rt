@@ -69,7 +69,7 @@ fn gate(kind: u8, k: u8) -> Model
 fn prepared_joint(kind: u8, k: u8) -> JointSim
     ensures { λ r. ⌜ r ≡ D.preparedJoint kind k ⌝ }
 {
-    prepare(gate(kind, k), STEP)
+    prepare(gate(kind, k), STEP).joint
 }
 
 fn unprepared_joint(kind: u8, k: u8) -> JointSim

@@ -1,1 +1,4 @@
-mod Lists
+mod Elements
+mod Turn
+mod Loop
+mod Run

@@ -2,14 +2,15 @@
 ghost use mathlib.Core.Path.{_≡_};
 ghost use Prim.Native.Nat.{_≤_};
 ghost use Rattle.scene.specs.Plain.{sameBelow, plainRun};
-use crate::check::check_list;
+use crate::calls::run_calls;
 use crate::still::same_velocities;
-use calls::run_calls;
+use list_check::check_list;
 use records::body::BodyState;
 use scene::Run;
 use scene::Scene;
 
-mod check;
+mod calls;
+mod places;
 mod still;
 
 // Whether the first `count` bodies kept their velocities.

@@ -5,7 +5,7 @@ use math_functions::types::Vec3;
 use records::body::BodyState;
 
 // By the float comparison: -0.0 equals 0.0, and a NaN equals nothing.
-pub fn same_vector(v: Vec3, w: Vec3) -> bool
+fn same_vector(v: Vec3, w: Vec3) -> bool
     ensures { λ r. ⌜ r ≡ sameVector v w ⌝ }
 {
     let x = v.x == w.x;

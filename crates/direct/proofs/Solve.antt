@@ -45,30 +45,27 @@ use denote.Exit.{yes}
 use Rattle.solver.specs.declared.StepContext.{StepContext}
 use Rattle.records.specs.declared.body.BodyState.{BodyState}
 use Rattle.records.specs.declared.joint.JointSim.{JointSim}
-use Rattle.constraint.specs.Answer.{jointSim}
-use Rattle.joint.specs.declared.stage.Staged.{Staged}
+use Rattle.constraint.specs.declared.answer.Solved.{Solved}
 use Rattle.joint.specs.declared.store.StatePair.{StatePair}
-use Rattle.joint.specs.Stage.{solveAs}
+use Rattle.joint.proofs.Stages.{solveOf}
 use Rattle.direct.specs.declared.places.Places.{Places}
 use Rattle.direct.specs.Steps.{placesOf, readStates, writeStates}
 use Rattle.direct.specs.Direct.{solve, Outcome, refused, directCall, Leaves}
 use Rattle.solver.proofs.StepContext.Laws as Tx′
 use Rattle.records.proofs.joint.JointSim.Laws as Tj′
-use Rattle.records.proofs.joint.JointUnion.Laws as Tu′
 use Rattle.constraint.proofs.velocity.Velocities.Laws as Tv′
-use Rattle.joint.proofs.stage.Staged as Tg
+use Rattle.constraint.proofs.answer.Solved as Tg
 use Rattle.joint.proofs.store.StatePair.Laws as Tq′
 use Rattle.direct.proofs.Answer.Laws as Tw′
 use Rattle.direct.proofs.places.Places.Laws as Tp′
-use Rattle.direct.proofs.Rows.{R, J, X, G, Wn, val-j, vals-j, tells-j, made-j, typed-j, val-x, vals-x, tells-x, made-x, typed-x, x-h, x-inv-h, val-g, vals-g, typed-g, g-velocities, typed-p, p-answer, typed-q, q-state-a, q-state-b, val-w, vals-w, made-w, typed-w}
+use Rattle.direct.proofs.Rows.{R, J, X, G, Wn, val-j, vals-j, tells-j, made-j, typed-j, val-x, vals-x, tells-x, made-x, typed-x, val-g, vals-g, typed-g, g-joint, g-velocities, typed-p, p-answer, typed-q, q-state-a, q-state-b, val-w, vals-w, made-w, typed-w}
 use Rattle.direct.proofs.Pieces.{refTo, lends, answers, joint-mir}
 use Rattle.direct.proofs.Calls.{Read, Write, calls-read, calls-write}
-use Rattle.direct.proofs.Stages.{Find, SolveAs, StagedJoint, calls-find, calls-solve, calls-staged}
+use Rattle.direct.proofs.Stages.{Find, SolveOf, calls-find, calls-solve}
 use Rattle.direct.proofs.Planned.{write-long, leaves, refuses, solved}
 use Rattle.direct.proofs.places.find_places.Symbol.{name as #find}
 use Rattle.direct.proofs.states.read_states.Symbol.{name as #read}
 use Rattle.direct.proofs.states.write_states.Symbol.{name as #write}
-use Rattle.joint.proofs.stage.staged_joint.Symbol.{name as #staged}
 
 abbrev pub signature : Signature
 signature = record { lifetimes = 2; outlives = []; params = RefMutOf (0 ∷ []) tt (plain (λ _. J)) (λ _. tt) ∷ plain (λ _. X) ∷ SliceRefMutOf (1 ∷ []) tt (plain (λ _. R)) (λ _. tt) ∷ plain (λ _. bool) ∷ []; result = plain (λ _. Wn) }
@@ -95,12 +92,10 @@ works τj #stage =
     lends 3 11 12
     (seq (call #read (copy (place 12 []) ∷ copy (place 6 []) ∷ []) (place 7 []))
     (seq (assign (place 9 []) (rvOpd (copy (place 1 (deref τj ∷ [])))))
-    (seq (call #stage (copy (place 9 []) ∷ copy (place 2 (field 2 ∷ [])) ∷ copy (place 2 (field 3 ∷ [])) ∷ copy (place 7 (field 0 ∷ [])) ∷ copy (place 7 (field 1 ∷ [])) ∷ copy (place 4 []) ∷ []) (place 8 []))
-    (seq (assign (place 13 []) (rvOpd (copy (place 1 (deref τj ∷ [])))))
-    (seq (call #staged (copy (place 13 []) ∷ copy (place 8 []) ∷ []) (place 9 []))
-    (seq (assign (place 1 (deref τj ∷ [])) (rvOpd (copy (place 9 []))))
-    (lends 3 15 16
-    (seq (call #write (copy (place 16 []) ∷ copy (place 6 []) ∷ copy (place 8 (field 1 ∷ [])) ∷ []) (place 14 [])) (answers 6)))))))))
+    (seq (call #stage (copy (place 9 []) ∷ copy (place 2 []) ∷ copy (place 7 (field 0 ∷ [])) ∷ copy (place 7 (field 1 ∷ [])) ∷ copy (place 4 []) ∷ []) (place 8 []))
+    (seq (assign (place 1 (deref τj ∷ [])) (rvOpd (copy (place 8 (field 2 ∷ [])))))
+    (lends 3 14 15
+    (seq (call #write (copy (place 15 []) ∷ copy (place 6 []) ∷ copy (place 8 (field 3 ∷ [])) ∷ []) (place 13 [])) (answers 6)))))))
 
 abbrev function : Ty → Sym → Tys → ℕ → Name → Fn
 function τj νg τg k #stage = record {
@@ -109,7 +104,7 @@ function τj νg τg k #stage = record {
   params = 4;
   locals = local Tw′.mir valueLocal ∷ local (tyRef (named 0) mut (pointee (J .written))) valueLocal ∷ local Tx′.mir valueLocal ∷ local (sliceTy (tyRef (named 1) mut (pointee (R .written)))) valueLocal ∷ local tyBool valueLocal
       ∷ local (tyInt w64) valueLocal ∷ local Tp′.mir valueLocal ∷ local Tq′.mir valueLocal ∷ local (tyStruct νg τg) valueLocal ∷ local τj valueLocal ∷ local tyBool valueLocal
-      ∷ local (refTo (pointee (R .written))) valueLocal ∷ local (sliceTy (refTo (pointee (R .written)))) valueLocal ∷ local τj valueLocal ∷ local tyUnit valueLocal ∷ local (refTo (pointee (R .written))) valueLocal ∷ local (sliceTy (refTo (pointee (R .written)))) valueLocal ∷ [];
+      ∷ local (refTo (pointee (R .written))) valueLocal ∷ local (sliceTy (refTo (pointee (R .written)))) valueLocal ∷ local tyUnit valueLocal ∷ local (refTo (pointee (R .written))) valueLocal ∷ local (sliceTy (refTo (pointee (R .written)))) valueLocal ∷ [];
   body = seq (assign (place 5 []) (rvOpd (copy (place 3 (field 1 ∷ [])))))
       (seq (assign (place 9 []) (rvOpd (copy (place 1 (deref τj ∷ [])))))
       (seq (call #find (int w8 k ∷ copy (place 9 []) ∷ copy (place 5 []) ∷ []) (place 6 []))
@@ -143,11 +138,11 @@ module _ {M : Type 1} (𝓤 : URA M) (H : Heap 𝓤) (A : Atoms 𝓤) (W : Given
   abbrev ab : StatePair
   ab = readStates pl ys
 
-  abbrev st : Staged
-  st = solveAs k (h .«union_») (h .base) (ctx .h) (ctx .«inv_h») (ab .«state_a») (ab .«state_b») u
+  abbrev st : Solved
+  st = solveOf k h ctx (ab .«state_a») (ab .«state_b») u
 
   abbrev left : JointSim
-  left = jointSim (h .base) (st .«union_»)
+  left = st .joint
 
   -- what the end is handed: the slice at the last states, the joint's borrow at the last joint, and the tokens
   abbrev Handed : JointSim → List BodyState → List (Item 𝓤)
@@ -165,13 +160,13 @@ module _ {M : Type 1} (𝓤 : URA M) (H : Heap 𝓤) (A : Atoms 𝓤) (W : Given
         nothing ! $ owned ! bool (Is bool) (bool-makes 𝓤 H A W) u _ refl $ fjoin ! $ move ! (2 ∷ 0 ∷ []) $ fjoin ! $ owned ! X (Is X) (made-x 𝓤 H A) ctx _ x-is $ fjoin ! $ move ! (1 ∷ 0 ∷ []) $ fjoin ! $ frame ! $
         owned ! Wn (Is Wn) (made-w 𝓤 H A) (r .answer) _ w-is $ done !
 
-  module _ (τj : Ty) (νg : Sym) (τg : Tys) {dg : ℕ} (eg : fieldAt 0 τg 1 ≡ some (Tv′.mir, dg)) (J-mir : J .mir ≡ τj ∷ []) (j-typed : (y : JointSim) → Is J y (vals-j y) → T (hasTy τj (val-j y)) × WT (val-j y)) (g-typed : Is G st (vals-g st) → T (hasTy (tyStruct νg τg) (val-g st)) × WT (val-g st)) (Post : Val → SProp 𝓤)
+  module _ (τj : Ty) (νg : Sym) (τg : Tys) {dj dg : ℕ} (ej : fieldAt 0 τg 2 ≡ some (τj, dj)) (eg : fieldAt 0 τg 3 ≡ some (Tv′.mir, dg)) (J-mir : J .mir ≡ τj ∷ []) (j-typed : (y : JointSim) → Is J y (vals-j y) → T (hasTy τj (val-j y)) × WT (val-j y)) (g-typed : Is G st (vals-g st) → T (hasTy (tyStruct νg τg) (val-g st)) × WT (val-g st)) (Post : Val → SProp 𝓤)
       (refuses : Is Wn (pl .answer) (vals-w (pl .answer)) → T (not (eqb (pl .answer .number) 0)) → ent 𝓤 (⋆ 𝓤 H A (Handed h ys)) (Post (val-w (pl .answer))))
       (ends : Is Wn (pl .answer) (vals-w (pl .answer)) → T (not (not (eqb (pl .answer .number) 0))) → ent 𝓤 (⋆ 𝓤 H A (Handed left (writeStates pl (st .velocities) ys))) (Post (val-w (pl .answer))))
-      (#stage : Name) (C : Calls 𝓤 H) (Λ : Loops 𝓤 H) (fm : FmC 𝓤 H (W .laws) C) (known-find : Triple 𝓤 (C #find) (Find 𝓤 H A mem run)) (known-read : Triple 𝓤 (C #read) (Read 𝓤 H A mem run)) (known-stage : Triple 𝓤 (C #stage) (SolveAs 𝓤 H A k)) (known-staged : Triple 𝓤 (C #staged) (StagedJoint 𝓤 H A mem run)) (known-write : Triple 𝓤 (C #write) (Write 𝓤 H A mem run)) where
-    abbrev En : ℕ → ℕ → ℕ → ℕ → ℕ → ℕ → ℕ → ℕ → ℕ → ℕ → ℕ → ℕ → ℕ → ℕ → ℕ → ℕ → ℕ → Env 𝓤 H
-    En l₀ l₁ l₂ l₃ l₄ l₅ l₆ l₇ l₈ l₉ l₁₀ l₁₁ l₁₂ l₁₃ l₁₄ l₁₅ l₁₆ = (Tw′.mir, l₀) ∷ (tyRef (named 0) mut (pointee (J .written)), l₁) ∷ (Tx′.mir, l₂) ∷ (sliceTy (tyRef (named 1) mut (pointee (R .written))), l₃) ∷ (tyBool, l₄) ∷ (tyInt w64, l₅) ∷ (Tp′.mir, l₆) ∷ (Tq′.mir, l₇) ∷ (tyStruct νg τg, l₈) ∷ (τj, l₉) ∷ (tyBool, l₁₀)
-        ∷ (refTo (pointee (R .written)), l₁₁) ∷ (sliceTy (refTo (pointee (R .written))), l₁₂) ∷ (τj, l₁₃) ∷ (tyUnit, l₁₄) ∷ (refTo (pointee (R .written)), l₁₅) ∷ (sliceTy (refTo (pointee (R .written))), l₁₆) ∷ []
+      (#stage : Name) (C : Calls 𝓤 H) (Λ : Loops 𝓤 H) (fm : FmC 𝓤 H (W .laws) C) (known-find : Triple 𝓤 (C #find) (Find 𝓤 H A mem run)) (known-read : Triple 𝓤 (C #read) (Read 𝓤 H A mem run)) (known-stage : Triple 𝓤 (C #stage) (SolveOf 𝓤 H A k)) (known-write : Triple 𝓤 (C #write) (Write 𝓤 H A mem run)) where
+    abbrev En : ℕ → ℕ → ℕ → ℕ → ℕ → ℕ → ℕ → ℕ → ℕ → ℕ → ℕ → ℕ → ℕ → ℕ → ℕ → ℕ → Env 𝓤 H
+    En l₀ l₁ l₂ l₃ l₄ l₅ l₆ l₇ l₈ l₉ l₁₀ l₁₁ l₁₂ l₁₃ l₁₄ l₁₅ = (Tw′.mir, l₀) ∷ (tyRef (named 0) mut (pointee (J .written)), l₁) ∷ (Tx′.mir, l₂) ∷ (sliceTy (tyRef (named 1) mut (pointee (R .written))), l₃) ∷ (tyBool, l₄) ∷ (tyInt w64, l₅) ∷ (Tp′.mir, l₆) ∷ (Tq′.mir, l₇) ∷ (tyStruct νg τg, l₈) ∷ (τj, l₉) ∷ (tyBool, l₁₀)
+        ∷ (refTo (pointee (R .written)), l₁₁) ∷ (sliceTy (refTo (pointee (R .written))), l₁₂) ∷ (tyUnit, l₁₃) ∷ (refTo (pointee (R .written)), l₁₄) ∷ (sliceTy (refTo (pointee (R .written))), l₁₅) ∷ []
 
     walk : ent 𝓤 (sep 𝓤 (sep 𝓤 (A .lft κ q) (sep 𝓤 (A .lft κ′ q′) (sem 𝓤 H A ftrue))) (sem 𝓤 H A (owns (MutRef (named 0) κ J ∷ X ∷ MutSlice (named 1) κ′ R ∷ bool ∷ []) a at))) (WpFn 𝓤 H C Λ (function τj νg τg k #stage) (vptr b o ∷ val-x ctx ∷ s ∷ vbool u ∷ []) Post)
     walk =
@@ -179,56 +174,54 @@ module _ {M : Type 1} (𝓤 : URA M) (H : Heap 𝓤) (A : Atoms 𝓤) (W : Given
         split ! $ move ! (1 ∷ []) $ split ! $ move ! (3 ∷ []) $ fsplit ! $ fsplit3 ! $ drop ! $ move ! (2 ∷ []) $ fsplit ! $ move ! (1 ∷ []) $ fsplit ! $ move ! (0 ∷ 5 ∷ 3 ∷ 4 ∷ 7 ∷ []) $
         -- [what the slice owns; its token; obs; the joint's borrow; its token; …]
         enter ! C Λ (function τj νg τg k #stage) (vptr b o ∷ val-x ctx ∷ s ∷ vbool u ∷ []) _ $
-        alloc1 ! (λ l₀. alloc1 ! (λ l₁. alloc1 ! (λ l₂. alloc1 ! (λ l₃. alloc1 ! (λ l₄. alloc1 ! (λ l₅. alloc1 ! (λ l₆. alloc1 ! (λ l₇. alloc1 ! (λ l₈. alloc1 ! (λ l₉. alloc1 ! (λ l₁₀. alloc1 ! (λ l₁₁. alloc1 ! (λ l₁₂. alloc1 ! (λ l₁₃. alloc1 ! (λ l₁₄. alloc1 ! (λ l₁₅. alloc1 ! (λ l₁₆. alloc0 ! $ params1 ! $
-        pass1 ! (init ! 30 refl (tt, tt)) $ pass1 ! (init ! 28 refl (typed-x 𝓤 H A W ctx x-is)) $ pass1 ! (init ! 26 refl (tt, (tt, (record { fits = room .0 }, tt)))) $ pass1 ! (init ! 24 refl (tt, tt)) $ pass0 ! $
-        move ! (36 ∷ 37 ∷ 38 ∷ 34 ∷ 35 ∷ []) $
+        alloc1 ! (λ l₀. alloc1 ! (λ l₁. alloc1 ! (λ l₂. alloc1 ! (λ l₃. alloc1 ! (λ l₄. alloc1 ! (λ l₅. alloc1 ! (λ l₆. alloc1 ! (λ l₇. alloc1 ! (λ l₈. alloc1 ! (λ l₉. alloc1 ! (λ l₁₀. alloc1 ! (λ l₁₁. alloc1 ! (λ l₁₂. alloc1 ! (λ l₁₃. alloc1 ! (λ l₁₄. alloc1 ! (λ l₁₅. alloc0 ! $ params1 ! $
+        pass1 ! (init ! 28 refl (tt, tt)) $ pass1 ! (init ! 26 refl (typed-x 𝓤 H A W ctx x-is)) $ pass1 ! (init ! 24 refl (tt, (tt, (record { fits = room .0 }, tt)))) $ pass1 ! (init ! 22 refl (tt, tt)) $ pass0 ! $
+        move ! (34 ∷ 35 ∷ 36 ∷ 32 ∷ 33 ∷ []) $
         opens ! tt J {h = h} b o (λ vs. spelt ! J (Is J) (shows 𝓤 H A J) vals-j tells-j fullShare h vs b o $ move ! (1 ∷ []) $ facts ! J (Is J) (shows 𝓤 H A J) h (vals-j h) (λ j-is. rewrite ! 0 (λ (ts : List Ty). ‵ (cellAt fullShare ts (vals-j h) b o)) J-mir refl $ move ! (4 ∷ 5 ∷ []) $
-        -- [0 what the slice owns; 1 its token; 2 the joint's cell; 3 the open borrow; 4 obs; 5 auth; _k at 6 + 2 · (16 − k)]
-        assigns ! (of-opd ! (load ! (from ! (fld ! refl (stop !))) (look-in ! 32 (sub ! 1 refl (whole !))))) (from ! (stop !)) (init ! 28 refl (tt, record { fits = room .0 })) $
-        assigns ! (of-opd ! (load ! (from ! (hop ! (look ! 36 refl) (stop !))) (look-raw ! 2 refl))) (from ! (stop !)) (init ! 20 refl (j-typed h j-is)) $
-        calls-find 𝓤 H A W mem run k h n (ltb→lt k (2 ^ 8) k-fits) (room .0) j-is ! fm known-find (and-then ! (lit ! k-fits) (and-then ! (load ! (from ! (stop !)) (look ! 21 refl)) (and-then ! (load ! (from ! (stop !)) (look ! 29 refl)) (no-more !)))) (λ p-is. land ! (from ! (stop !)) (init ! 26 refl (typed-p 𝓤 H A W pl p-is)) $
-        assigns ! (bin ! (load ! (from ! (fld ! refl (fld ! refl (stop !)))) (look-in ! 26 (sub ! 0 refl (sub ! 0 refl (whole !))))) (lit ! tt) tt) (from ! (stop !)) (init ! 18 refl (tt, tt)) $
-        first ! $ branches ! (load ! (from ! (stop !)) (look ! 18 refl))
+        -- [0 what the slice owns; 1 its token; 2 the joint's cell; 3 the open borrow; 4 obs; 5 auth; _k at 6 + 2 · (15 − k)]
+        assigns ! (of-opd ! (load ! (from ! (fld ! refl (stop !))) (look-in ! 30 (sub ! 1 refl (whole !))))) (from ! (stop !)) (init ! 26 refl (tt, record { fits = room .0 })) $
+        assigns ! (of-opd ! (load ! (from ! (hop ! (look ! 34 refl) (stop !))) (look-raw ! 2 refl))) (from ! (stop !)) (init ! 18 refl (j-typed h j-is)) $
+        calls-find 𝓤 H A W mem run k h n (ltb→lt k (2 ^ 8) k-fits) (room .0) j-is ! fm known-find (and-then ! (lit ! k-fits) (and-then ! (load ! (from ! (stop !)) (look ! 19 refl)) (and-then ! (load ! (from ! (stop !)) (look ! 27 refl)) (no-more !)))) (λ p-is. land ! (from ! (stop !)) (init ! 24 refl (typed-p 𝓤 H A W pl p-is)) $
+        assigns ! (bin ! (load ! (from ! (fld ! refl (fld ! refl (stop !)))) (look-in ! 24 (sub ! 0 refl (sub ! 0 refl (whole !))))) (lit ! tt) tt) (from ! (stop !)) (init ! 16 refl (tt, tt)) $
+        first ! $ branches ! (load ! (from ! (stop !)) (look ! 16 refl))
         (λ no.
-        assigns ! (of-opd ! (load ! (from ! (fld ! refl (stop !))) (look-in ! 26 (sub ! 0 refl (whole !))))) (from ! (stop !)) (init ! 38 refl (typed-w 𝓤 H A W (pl .answer) (p-answer pl p-is))) $
+        assigns ! (of-opd ! (load ! (from ! (fld ! refl (stop !))) (look-in ! 24 (sub ! 0 refl (whole !))))) (from ! (stop !)) (init ! 36 refl (typed-w 𝓤 H A W (pl .answer) (p-answer pl p-is))) $
         -- the joint's borrow is closed at the joint as it was
         move ! (2 ∷ []) $ rewrite ! 0 (λ (ts : List Ty). ‵ (cellAt fullShare ts (vals-j h) b o)) (sym J-mir) refl $ owned ! J (Is J) (made-j 𝓤 H A) h _ j-is $ move ! (1 ∷ 0 ∷ 4 ∷ 5 ∷ 6 ∷ []) $ closes ! tt J h (vals-j h) b o $
-        -- [obs; the borrow; its token; what the slice owns; its token; _k at 5 + 2 · (16 − k)]
-        returns-within ! Post refl (look ! 37 refl) $ forget ! 17 refl $ forget ! 19 refl $ forget ! 25 refl $ forget ! 27 refl $ forget ! 29 refl $ forget ! 31 refl $ forget ! 33 refl $ forget ! 35 refl $ forget ! 37 refl $
-        move ! (37 ∷ 38 ∷ []) $ free1 ! $ move ! (35 ∷ 36 ∷ []) $ free1 ! $ move ! (33 ∷ 34 ∷ []) $ free1 ! $ move ! (31 ∷ 32 ∷ []) $ free1 ! $ move ! (29 ∷ 30 ∷ []) $ free1 ! $ move ! (27 ∷ 28 ∷ []) $ free1 ! $ move ! (25 ∷ 26 ∷ []) $ free1 ! $ move ! (23 ∷ 24 ∷ []) $ free1 ! $ move ! (21 ∷ 22 ∷ []) $ free1 ! $ move ! (19 ∷ 20 ∷ []) $ free1 ! $ move ! (17 ∷ 18 ∷ []) $ free1 ! $ move ! (15 ∷ 16 ∷ []) $ free1 ! $ move ! (13 ∷ 14 ∷ []) $ free1 ! $ move ! (11 ∷ 12 ∷ []) $ free1 ! $ move ! (9 ∷ 10 ∷ []) $ free1 ! $ move ! (7 ∷ 8 ∷ []) $ free1 ! $ move ! (5 ∷ 6 ∷ []) $ free1 ! $ free0 ! $
+        -- [obs; the borrow; its token; what the slice owns; its token; _k at 5 + 2 · (15 − k)]
+        returns-within ! Post refl (look ! 35 refl) $ forget ! 15 refl $ forget ! 17 refl $ forget ! 23 refl $ forget ! 25 refl $ forget ! 27 refl $ forget ! 29 refl $ forget ! 31 refl $ forget ! 33 refl $ forget ! 35 refl $
+        move ! (35 ∷ 36 ∷ []) $ free1 ! $ move ! (33 ∷ 34 ∷ []) $ free1 ! $ move ! (31 ∷ 32 ∷ []) $ free1 ! $ move ! (29 ∷ 30 ∷ []) $ free1 ! $ move ! (27 ∷ 28 ∷ []) $ free1 ! $ move ! (25 ∷ 26 ∷ []) $ free1 ! $ move ! (23 ∷ 24 ∷ []) $ free1 ! $ move ! (21 ∷ 22 ∷ []) $ free1 ! $ move ! (19 ∷ 20 ∷ []) $ free1 ! $ move ! (17 ∷ 18 ∷ []) $ free1 ! $ move ! (15 ∷ 16 ∷ []) $ free1 ! $ move ! (13 ∷ 14 ∷ []) $ free1 ! $ move ! (11 ∷ 12 ∷ []) $ free1 ! $ move ! (9 ∷ 10 ∷ []) $ free1 ! $ move ! (7 ∷ 8 ∷ []) $ free1 ! $ move ! (5 ∷ 6 ∷ []) $ free1 ! $ free0 ! $
         keep ! (3 ∷ 4 ∷ 0 ∷ 1 ∷ 2 ∷ []) $ by ! (refuses (p-answer pl p-is) no))
         (λ yes.
-        skips ! $ exec ! C Λ (En l₀ l₁ l₂ l₃ l₄ l₅ l₆ l₇ l₈ l₉ l₁₀ l₁₁ l₁₂ l₁₃ l₁₄ l₁₅ l₁₆) (works τj #stage) (atRet (En l₀ l₁ l₂ l₃ l₄ l₅ l₆ l₇ l₈ l₉ l₁₀ l₁₁ l₁₂ l₁₃ l₁₄ l₁₅ l₁₆) Post) $
-        assigns ! (addr ! (from ! (fld ! refl (hop ! (look-in ! 32 (sub ! 0 refl (whole !))) (stop !))))) (from ! (stop !)) (init ! 16 refl (tt, tt)) $
-        assigns ! (agg ! (and-then ! (load ! (from ! (stop !)) (look ! 16 refl)) (and-then ! (load ! (from ! (fld ! refl (stop !))) (look-in ! 32 (sub ! 1 refl (whole !)))) (no-more !)))) (from ! (stop !)) (init ! 14 refl (tt, (tt, (record { fits = room .0 }, tt)))) $
-        calls-read 𝓤 H A W mem run (named 1) κ′ q′ b′ o′ γ′ n ys refl room pl p-is ! fm known-read (λ ν δ. (and-then ! (load ! (from ! (stop !)) (look ! 14 refl)) (and-then ! (load ! (from ! (stop !)) (look ! 26 refl)) (no-more !)))) (λ q-is. land ! (from ! (stop !)) (init ! 24 refl (typed-q 𝓤 H A W ab q-is)) $
-        assigns ! (of-opd ! (load ! (from ! (hop ! (look ! 36 refl) (stop !))) (look-raw ! 2 refl))) (from ! (stop !)) (store ! 20 refl (j-typed h j-is)) $
-        calls-solve 𝓤 H A W k h (ctx .h) (ctx .«inv_h») (ab .«state_a») (ab .«state_b») u j-is (x-h ctx x-is) (x-inv-h ctx x-is) (q-state-a ab q-is) (q-state-b ab q-is) ! fm known-stage (and-then ! (load ! (from ! (stop !)) (look ! 21 refl)) (and-then ! (load ! (from ! (fld ! refl (stop !))) (look-in ! 35 (sub ! 2 refl (whole !)))) (and-then ! (load ! (from ! (fld ! refl (stop !))) (look-in ! 35 (sub ! 3 refl (whole !)))) (and-then ! (load ! (from ! (fld ! refl (stop !))) (look-in ! 25 (sub ! 0 refl (whole !)))) (and-then ! (load ! (from ! (fld ! refl (stop !))) (look-in ! 25 (sub ! 1 refl (whole !)))) (and-then ! (load ! (from ! (stop !)) (look ! 31 refl)) (no-more !))))))) (λ g-is. land ! (from ! (stop !)) (init ! 22 refl (g-typed g-is)) $
-        assigns ! (of-opd ! (load ! (from ! (hop ! (look ! 36 refl) (stop !))) (look-raw ! 2 refl))) (from ! (stop !)) (init ! 12 refl (j-typed h j-is)) $
-        calls-staged 𝓤 H A W mem run h st j-is g-is ! fm known-staged (and-then ! (load ! (from ! (stop !)) (look ! 13 refl)) (and-then ! (load ! (from ! (stop !)) (look ! 23 refl)) (no-more !))) (λ l-is. land ! (from ! (stop !)) (store ! 20 refl (j-typed left l-is)) $
-        assigns ! (of-opd ! (load ! (from ! (stop !)) (look ! 20 refl))) (from ! (hop ! (look ! 36 refl) (stop !))) (store-raw ! 2 refl (j-typed left l-is)) $
-        assigns ! (addr ! (from ! (fld ! refl (hop ! (look-in ! 32 (sub ! 0 refl (whole !))) (stop !))))) (from ! (stop !)) (init ! 8 refl (tt, tt)) $
-        assigns ! (agg ! (and-then ! (load ! (from ! (stop !)) (look ! 8 refl)) (and-then ! (load ! (from ! (fld ! refl (stop !))) (look-in ! 32 (sub ! 1 refl (whole !)))) (no-more !)))) (from ! (stop !)) (init ! 6 refl (tt, (tt, (record { fits = room .0 }, tt)))) $
-        calls-write 𝓤 H A W mem run (named 1) κ′ q′ b′ o′ γ′ n ys refl room pl (st .velocities) p-is (g-velocities st g-is) ! fm known-write (λ ν δ. (and-then ! (load ! (from ! (stop !)) (look ! 6 refl)) (and-then ! (load ! (from ! (stop !)) (look ! 26 refl)) (and-then ! (load ! (from ! (fld ! eg (stop !))) (look-in ! 22 (sub ! 1 eg (whole !)))) (no-more !))))) $ land ! (from ! (stop !)) (init ! 10 refl (tt, tt)) $
-        assigns ! (of-opd ! (load ! (from ! (fld ! refl (stop !))) (look-in ! 26 (sub ! 0 refl (whole !))))) (from ! (stop !)) (init ! 38 refl (typed-w 𝓤 H A W (pl .answer) (p-answer pl p-is))) $
+        skips ! $ exec ! C Λ (En l₀ l₁ l₂ l₃ l₄ l₅ l₆ l₇ l₈ l₉ l₁₀ l₁₁ l₁₂ l₁₃ l₁₄ l₁₅) (works τj #stage) (atRet (En l₀ l₁ l₂ l₃ l₄ l₅ l₆ l₇ l₈ l₉ l₁₀ l₁₁ l₁₂ l₁₃ l₁₄ l₁₅) Post) $
+        assigns ! (addr ! (from ! (fld ! refl (hop ! (look-in ! 30 (sub ! 0 refl (whole !))) (stop !))))) (from ! (stop !)) (init ! 14 refl (tt, tt)) $
+        assigns ! (agg ! (and-then ! (load ! (from ! (stop !)) (look ! 14 refl)) (and-then ! (load ! (from ! (fld ! refl (stop !))) (look-in ! 30 (sub ! 1 refl (whole !)))) (no-more !)))) (from ! (stop !)) (init ! 12 refl (tt, (tt, (record { fits = room .0 }, tt)))) $
+        calls-read 𝓤 H A W mem run (named 1) κ′ q′ b′ o′ γ′ n ys refl room pl p-is ! fm known-read (λ ν δ. (and-then ! (load ! (from ! (stop !)) (look ! 12 refl)) (and-then ! (load ! (from ! (stop !)) (look ! 24 refl)) (no-more !)))) (λ q-is. land ! (from ! (stop !)) (init ! 22 refl (typed-q 𝓤 H A W ab q-is)) $
+        assigns ! (of-opd ! (load ! (from ! (hop ! (look ! 34 refl) (stop !))) (look-raw ! 2 refl))) (from ! (stop !)) (store ! 18 refl (j-typed h j-is)) $
+        calls-solve 𝓤 H A W k h ctx (ab .«state_a») (ab .«state_b») u j-is x-is (q-state-a ab q-is) (q-state-b ab q-is) ! fm known-stage (and-then ! (load ! (from ! (stop !)) (look ! 19 refl)) (and-then ! (load ! (from ! (stop !)) (look ! 33 refl)) (and-then ! (load ! (from ! (fld ! refl (stop !))) (look-in ! 23 (sub ! 0 refl (whole !)))) (and-then ! (load ! (from ! (fld ! refl (stop !))) (look-in ! 23 (sub ! 1 refl (whole !)))) (and-then ! (load ! (from ! (stop !)) (look ! 29 refl)) (no-more !)))))) (λ g-is. land ! (from ! (stop !)) (init ! 20 refl (g-typed g-is)) $
+        assigns ! (of-opd ! (load ! (from ! (fld ! ej (stop !))) (look-in ! 20 (sub ! 2 ej (whole !))))) (from ! (hop ! (look ! 34 refl) (stop !))) (store-raw ! 2 refl (j-typed left (g-joint st g-is))) $
+        assigns ! (addr ! (from ! (fld ! refl (hop ! (look-in ! 30 (sub ! 0 refl (whole !))) (stop !))))) (from ! (stop !)) (init ! 8 refl (tt, tt)) $
+        assigns ! (agg ! (and-then ! (load ! (from ! (stop !)) (look ! 8 refl)) (and-then ! (load ! (from ! (fld ! refl (stop !))) (look-in ! 30 (sub ! 1 refl (whole !)))) (no-more !)))) (from ! (stop !)) (init ! 6 refl (tt, (tt, (record { fits = room .0 }, tt)))) $
+        calls-write 𝓤 H A W mem run (named 1) κ′ q′ b′ o′ γ′ n ys refl room pl (st .velocities) p-is (g-velocities st g-is) ! fm known-write (λ ν δ. (and-then ! (load ! (from ! (stop !)) (look ! 6 refl)) (and-then ! (load ! (from ! (stop !)) (look ! 24 refl)) (and-then ! (load ! (from ! (fld ! eg (stop !))) (look-in ! 20 (sub ! 3 eg (whole !)))) (no-more !))))) $ land ! (from ! (stop !)) (init ! 10 refl (tt, tt)) $
+        assigns ! (of-opd ! (load ! (from ! (fld ! refl (stop !))) (look-in ! 24 (sub ! 0 refl (whole !))))) (from ! (stop !)) (init ! 36 refl (typed-w 𝓤 H A W (pl .answer) (p-answer pl p-is))) $
         -- the joint's borrow is closed at the joint that is left
-        move ! (2 ∷ []) $ rewrite ! 0 (λ (ts : List Ty). ‵ (cellAt fullShare ts (vals-j left) b o)) (sym J-mir) refl $ owned ! J (Is J) (made-j 𝓤 H A) left _ l-is $ move ! (1 ∷ 0 ∷ 4 ∷ 5 ∷ 6 ∷ []) $ closes ! tt J left (vals-j left) b o $
-        returns ! (look ! 37 refl) $ forget ! 5 refl $ forget ! 7 refl $ forget ! 9 refl $ forget ! 11 refl $ forget ! 13 refl $ forget ! 15 refl $ forget ! 17 refl $ forget ! 19 refl $ forget ! 21 refl $ forget ! 23 refl $ forget ! 25 refl $ forget ! 27 refl $ forget ! 29 refl $ forget ! 31 refl $ forget ! 33 refl $ forget ! 35 refl $ forget ! 37 refl $
-        move ! (37 ∷ 38 ∷ []) $ free1 ! $ move ! (35 ∷ 36 ∷ []) $ free1 ! $ move ! (33 ∷ 34 ∷ []) $ free1 ! $ move ! (31 ∷ 32 ∷ []) $ free1 ! $ move ! (29 ∷ 30 ∷ []) $ free1 ! $ move ! (27 ∷ 28 ∷ []) $ free1 ! $ move ! (25 ∷ 26 ∷ []) $ free1 ! $ move ! (23 ∷ 24 ∷ []) $ free1 ! $ move ! (21 ∷ 22 ∷ []) $ free1 ! $ move ! (19 ∷ 20 ∷ []) $ free1 ! $ move ! (17 ∷ 18 ∷ []) $ free1 ! $ move ! (15 ∷ 16 ∷ []) $ free1 ! $ move ! (13 ∷ 14 ∷ []) $ free1 ! $ move ! (11 ∷ 12 ∷ []) $ free1 ! $ move ! (9 ∷ 10 ∷ []) $ free1 ! $ move ! (7 ∷ 8 ∷ []) $ free1 ! $ move ! (5 ∷ 6 ∷ []) $ free1 ! $ free0 ! $
-        keep ! (3 ∷ 4 ∷ 0 ∷ 1 ∷ 2 ∷ []) $ by ! (ends (p-answer pl p-is) yes)))))))))))))))))))))))))
+        move ! (2 ∷ []) $ rewrite ! 0 (λ (ts : List Ty). ‵ (cellAt fullShare ts (vals-j left) b o)) (sym J-mir) refl $ owned ! J (Is J) (made-j 𝓤 H A) left _ (g-joint st g-is) $ move ! (1 ∷ 0 ∷ 4 ∷ 5 ∷ 6 ∷ []) $ closes ! tt J left (vals-j left) b o $
+        returns ! (look ! 35 refl) $ forget ! 5 refl $ forget ! 7 refl $ forget ! 9 refl $ forget ! 11 refl $ forget ! 13 refl $ forget ! 15 refl $ forget ! 17 refl $ forget ! 19 refl $ forget ! 21 refl $ forget ! 23 refl $ forget ! 25 refl $ forget ! 27 refl $ forget ! 29 refl $ forget ! 31 refl $ forget ! 33 refl $ forget ! 35 refl $
+        move ! (35 ∷ 36 ∷ []) $ free1 ! $ move ! (33 ∷ 34 ∷ []) $ free1 ! $ move ! (31 ∷ 32 ∷ []) $ free1 ! $ move ! (29 ∷ 30 ∷ []) $ free1 ! $ move ! (27 ∷ 28 ∷ []) $ free1 ! $ move ! (25 ∷ 26 ∷ []) $ free1 ! $ move ! (23 ∷ 24 ∷ []) $ free1 ! $ move ! (21 ∷ 22 ∷ []) $ free1 ! $ move ! (19 ∷ 20 ∷ []) $ free1 ! $ move ! (17 ∷ 18 ∷ []) $ free1 ! $ move ! (15 ∷ 16 ∷ []) $ free1 ! $ move ! (13 ∷ 14 ∷ []) $ free1 ! $ move ! (11 ∷ 12 ∷ []) $ free1 ! $ move ! (9 ∷ 10 ∷ []) $ free1 ! $ move ! (7 ∷ 8 ∷ []) $ free1 ! $ move ! (5 ∷ 6 ∷ []) $ free1 ! $ free0 ! $
+        keep ! (3 ∷ 4 ∷ 0 ∷ 1 ∷ 2 ∷ []) $ by ! (ends (p-answer pl p-is) yes)))))))))))))))))))))))
 
 -- ---- at the types themselves
 
-abbrev staged-fields : Tys
-staged-fields = tcons Tu′.mir (tcons Tv′.mir tnil)
+abbrev solved-fields : Tys
+solved-fields = tcons (tyInt w32) (tcons (tyInt w32) (tcons Tj′.mir (tcons Tv′.mir tnil)))
 
 abbrev code : ℕ → Name → Fn
-code k #stage = function Tj′.mir (Tg.the-type .name) staged-fields k #stage
+code k #stage = function Tj′.mir (Tg.the-type .name) solved-fields k #stage
 
 module _ {M : Type 1} (𝓤 : URA M) (H : Heap 𝓤) (A : Atoms 𝓤) (W : Given 𝓤 H A) (mem : Memory → SProp 𝓤) (run : Routine → Fun 𝓤) (k : ℕ) (k-fits : T (ltb k (2 ^ 8))) (#stage : Name) where
-  walks : (C : Calls 𝓤 H) (Λ : Loops 𝓤 H) → FmC 𝓤 H (W .laws) C → Triple 𝓤 (C #find) (Find 𝓤 H A mem run) → Triple 𝓤 (C #read) (Read 𝓤 H A mem run) → Triple 𝓤 (C #stage) (SolveAs 𝓤 H A k) → Triple 𝓤 (C #staged) (StagedJoint 𝓤 H A mem run) → Triple 𝓤 (C #write) (Write 𝓤 H A mem run)
+  walks : (C : Calls 𝓤 H) (Λ : Loops 𝓤 H) → FmC 𝓤 H (W .laws) C → Triple 𝓤 (C #find) (Find 𝓤 H A mem run) → Triple 𝓤 (C #read) (Read 𝓤 H A mem run) → Triple 𝓤 (C #stage) (SolveOf 𝓤 H A k) → Triple 𝓤 (C #write) (Write 𝓤 H A mem run)
       → Walks 𝓤 H A ended stayed (WpFn 𝓤 H C Λ (code k #stage)) (clauses k 𝓤)
-  walks C Λ fm known-find known-read known-stage known-staged known-write = walked 𝓤 H A ended stayed (clauses k 𝓤) (WpFn 𝓤 H C Λ (code k #stage))
+  walks C Λ fm known-find known-read known-stage known-write = walked 𝓤 H A ended stayed (clauses k 𝓤) (WpFn 𝓤 H C Λ (code k #stage))
       (λ κs. (ptr-vals, (vals-x, (slice-vals, (bool-vals, tt))))) (λ κs. (mut-tells (named 0) (κs .0) J, (tells-x, (mut-slice-tells (named 1) (κs .1 .0) R, (bool-tells, tt)))))
       (λ κs qs bounds a g are. via 𝓤 _ (fst∗ 𝓤 _ (emp 𝓤)) (one (κs .0) (κs .1 .0) bounds (qs .0) (qs .1 .0) (a .0 .ptr .0) (a .0 .ptr .1) (a .0 .name) (a .0 .now) (a .1 .0) (a .1 .1 .0 .ptr .0) (a .1 .1 .0 .ptr .1) (a .1 .1 .0 .name) (a .1 .1 .0 .now) (a .1 .1 .1 .0) (are .1 .1 .0 .0 .1) (are .1 .0)))
     where
@@ -239,16 +232,16 @@ module _ {M : Type 1} (𝓤 : URA M) (H : Heap 𝓤) (A : Atoms 𝓤) (W : Given
       one κ κ′ bounds q q′ b o γ h ctx b′ o′ γ′ ys u room x-is =
           let pl = placesOf k h (length ys) in
           let ab = readStates pl ys in
-          let st = solveAs k (h .«union_») (h .base) (ctx .h) (ctx .«inv_h») (ab .«state_a») (ab .«state_b») u in
+          let st = solveOf k h ctx (ab .«state_a») (ab .«state_b») u in
           let out = exits 𝓤 H A W mem run k k-fits κ κ′ q q′ b o γ h ctx b′ o′ γ′ ys u room x-is bounds in
-          walk 𝓤 H A W mem run k k-fits κ κ′ q q′ b o γ h ctx b′ o′ γ′ ys u room x-is Tj′.mir (Tg.the-type .name) staged-fields refl joint-mir (typed-j 𝓤 H A W) (typed-g 𝓤 H A W st) (Post 𝓤 H A W mem run k k-fits κ κ′ q q′ b o γ h ctx b′ o′ γ′ ys u room x-is bounds)
+          walk 𝓤 H A W mem run k k-fits κ κ′ q q′ b o γ h ctx b′ o′ γ′ ys u room x-is Tj′.mir (Tg.the-type .name) solved-fields refl refl joint-mir (typed-j 𝓤 H A W) (typed-g 𝓤 H A W st) (Post 𝓤 H A W mem run k k-fits κ κ′ q q′ b o γ h ctx b′ o′ γ′ ys u room x-is bounds)
           (λ w-is no. out (refused (pl .answer .number) h ys) (refuses h ys (solve k ctx u) no) refl w-is)
-          (λ w-is yes. out (leaves h ys (solve k ctx u) st) (solved h ys k ctx u yes) (write-long pl (st .velocities) ys) w-is)
-          #stage C Λ fm known-find known-read known-stage known-staged known-write
+          (λ w-is yes. out (leaves h ys (solve k ctx u) (st .joint) (st .velocities)) (solved h ys k ctx u yes) (write-long pl (st .velocities) ys) w-is)
+          #stage C Λ fm known-find known-read known-stage known-write
 
 pub meets : (k : ℕ) (k-fits : T (ltb k (2 ^ 8))) (#stage : Name) {M : Type 1} (𝓤 : URA M) (H : Heap 𝓤) (A : Atoms 𝓤) → Given 𝓤 H A → (mem : Memory → SProp 𝓤) (run : Routine → Fun 𝓤) (𝓣 : Tables 𝓤 H)
-    → Triple 𝓤 (𝓣 .C #find) (Find 𝓤 H A mem run) → Triple 𝓤 (𝓣 .C #read) (Read 𝓤 H A mem run) → Triple 𝓤 (𝓣 .C #stage) (SolveAs 𝓤 H A k) → Triple 𝓤 (𝓣 .C #staged) (StagedJoint 𝓤 H A mem run) → Triple 𝓤 (𝓣 .C #write) (Write 𝓤 H A mem run)
+    → Triple 𝓤 (𝓣 .C #find) (Find 𝓤 H A mem run) → Triple 𝓤 (𝓣 .C #read) (Read 𝓤 H A mem run) → Triple 𝓤 (𝓣 .C #stage) (SolveOf 𝓤 H A k) → Triple 𝓤 (𝓣 .C #write) (Write 𝓤 H A mem run)
     → Meets 𝓤 H A signature (WpFn 𝓤 H (𝓣 .C) (𝓣 .Λ) (code k #stage)) (closing 𝓤 H A ended (clauses k 𝓤))
-meets k k-fits #stage 𝓤 H A W mem run 𝓣 known-find known-read known-stage known-staged known-write =
+meets k k-fits #stage 𝓤 H A W mem run 𝓣 known-find known-read known-stage known-write =
     walk-meets 𝓤 H A ended stayed W (goes-ref 𝓤 H A W 2 0 tt (plain (λ _. J)), (goes-none 𝓤 H A W 2 (λ _. X) yes (λ κs x f. refl), (goes-slice 𝓤 H A W 2 1 tt (plain (λ _. R)), (goes-none 𝓤 H A W 2 (λ _. bool) yes (λ κs x f. refl), tt)))) (clauses k 𝓤)
-    (WpFn 𝓤 H (𝓣 .C) (𝓣 .Λ) (code k #stage)) (WpFn-mono 𝓤 H (W .laws) 𝓣 (code k #stage)) (walks 𝓤 H A W mem run k k-fits #stage (𝓣 .C) (𝓣 .Λ) (fmOf 𝓤 H (W .laws) 𝓣) known-find known-read known-stage known-staged known-write)
+    (WpFn 𝓤 H (𝓣 .C) (𝓣 .Λ) (code k #stage)) (WpFn-mono 𝓤 H (W .laws) 𝓣 (code k #stage)) (walks 𝓤 H A W mem run k k-fits #stage (𝓣 .C) (𝓣 .Λ) (fmOf 𝓤 H (W .laws) 𝓣) known-find known-read known-stage known-write)

@@ -21,8 +21,7 @@ use Rattle.records.specs.declared.joint.JointUnion.the-variants.{Revolute, Sphe
 use Rattle.records.specs.Body.{storeVelocities, identityBodyState}
 use Rattle.records.specs.Joint.{isOther, unusedJoint}
 use Rattle.constraint.specs.Answer.{jointSim}
-use Rattle.joint.specs.declared.stage.Staged.{Staged}
-use Rattle.joint.specs.Stage.{stageJoint}
+use Rattle.joint.specs.Stage.{Staged, stageJoint}
 use Rattle.joint.specs.Index.{indexA, indexB, badIndex, indexCause}
 use Rattle.scene.specs.declared.Scene.{Scene}
 use Rattle.scene.specs.Scene.{jointAt, stateAt, store}

@@ -5,13 +5,6 @@ ghost use Rattle.direct.specs.Direct as D;
 use crate::places::find_places;
 use crate::states::read_states;
 use crate::states::write_states;
-use joint::stage::solve_as_revolute;
-use joint::stage::solve_as_spherical;
-use joint::stage::solve_as_weld;
-use joint::stage::staged_joint;
-use joint::stage::warm_start_as_revolute;
-use joint::stage::warm_start_as_spherical;
-use joint::stage::warm_start_as_weld;
 use records::body::BodyState;
 use records::joint::JointSim;
 use solver::StepContext;
@@ -35,8 +28,8 @@ pub fn warm_start_revolute_joint(joint: &mut JointSim, states: &mut [BodyState])
         return places.answer;
     }
     let pair = read_states(states, places);
-    let v = warm_start_as_revolute(*joint, pair.state_a, pair.state_b);
-    write_states(states, places, v);
+    let s = revolute::warm_start_revolute_joint(*joint, pair.state_a, pair.state_b);
+    write_states(states, places, s.velocities);
     places.answer
 }
 
@@ -49,8 +42,8 @@ pub fn warm_start_spherical_joint(joint: &mut JointSim, states: &mut [BodyState]
         return places.answer;
     }
     let pair = read_states(states, places);
-    let v = warm_start_as_spherical(*joint, pair.state_a, pair.state_b);
-    write_states(states, places, v);
+    let s = spherical::warm_start_spherical_joint(*joint, pair.state_a, pair.state_b);
+    write_states(states, places, s.velocities);
     places.answer
 }
 
@@ -63,8 +56,8 @@ pub fn warm_start_weld_joint(joint: &mut JointSim, states: &mut [BodyState]) -> 
         return places.answer;
     }
     let pair = read_states(states, places);
-    let v = warm_start_as_weld(*joint, pair.state_a, pair.state_b);
-    write_states(states, places, v);
+    let s = weld::warm_start_weld_joint(*joint, pair.state_a, pair.state_b);
+    write_states(states, places, s.velocities);
     places.answer
 }
 
@@ -82,15 +75,8 @@ pub fn solve_revolute_joint(
         return places.answer;
     }
     let pair = read_states(states, places);
-    let s = solve_as_revolute(
-        *joint,
-        context.h,
-        context.inv_h,
-        pair.state_a,
-        pair.state_b,
-        use_bias,
-    );
-    *joint = staged_joint(*joint, s);
+    let s = revolute::solve_revolute_joint(*joint, context, pair.state_a, pair.state_b, use_bias);
+    *joint = s.joint;
     write_states(states, places, s.velocities);
     places.answer
 }
@@ -109,15 +95,8 @@ pub fn solve_spherical_joint(
         return places.answer;
     }
     let pair = read_states(states, places);
-    let s = solve_as_spherical(
-        *joint,
-        context.h,
-        context.inv_h,
-        pair.state_a,
-        pair.state_b,
-        use_bias,
-    );
-    *joint = staged_joint(*joint, s);
+    let s = spherical::solve_spherical_joint(*joint, context, pair.state_a, pair.state_b, use_bias);
+    *joint = s.joint;
     write_states(states, places, s.velocities);
     places.answer
 }
@@ -136,15 +115,8 @@ pub fn solve_weld_joint(
         return places.answer;
     }
     let pair = read_states(states, places);
-    let s = solve_as_weld(
-        *joint,
-        context.h,
-        context.inv_h,
-        pair.state_a,
-        pair.state_b,
-        use_bias,
-    );
-    *joint = staged_joint(*joint, s);
+    let s = weld::solve_weld_joint(*joint, context, pair.state_a, pair.state_b, use_bias);
+    *joint = s.joint;
     write_states(states, places, s.velocities);
     places.answer
 }

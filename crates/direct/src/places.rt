@@ -16,7 +16,7 @@ pub struct Places {
 }
 
 // Whether the joint's case is the kind, by its number. The empty case is of no kind.
-pub fn is_of_kind(kind: u8, union_: JointUnion) -> bool
+fn is_of_kind(kind: u8, union_: JointUnion) -> bool
     ensures { λ r. ⌜ r ≡ D.isOfKind kind «union_» ⌝ }
 {
     match union_ {
@@ -28,7 +28,7 @@ pub fn is_of_kind(kind: u8, union_: JointUnion) -> bool
 }
 
 // The first cause of a refusal, or 0.
-pub fn cause_of(kind: u8, union_: JointUnion, n: usize) -> u32
+fn cause_of(kind: u8, union_: JointUnion, n: usize) -> u32
     ensures { λ r. ⌜ r ≡ D.cause kind «union_» n ⌝ }
 {
     if is_of_kind(kind, union_) {
@@ -37,7 +37,7 @@ pub fn cause_of(kind: u8, union_: JointUnion, n: usize) -> u32
     1
 }
 
-pub fn place_of(n: usize, index: i32) -> usize
+fn place_of(n: usize, index: i32) -> usize
     ensures { λ r. ⌜ r ≡ S.placeOf n index ⌝ }
 {
     if index < 0 {

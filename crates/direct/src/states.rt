@@ -13,7 +13,7 @@ use records::body::store_velocities;
 
 // What -1 reads. It is no parameter of `load_state`, which would then choose between two addresses for
 // each field.
-pub fn identity_state() -> BodyState
+fn identity_state() -> BodyState
     ensures { λ r. ⌜ r ≡ B.identityBodyState ⌝ }
 {
     IDENTITY_BODY_STATE

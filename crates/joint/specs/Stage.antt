@@ -12,8 +12,11 @@ use Rattle.constraint.specs.Velocity.{velocitiesOf}
 use Rattle.revolute.specs.Revolute.{warmStartRevolute, solveRevolute}
 use Rattle.spherical.specs.Spherical.{warmStartSpherical, solveSpherical}
 use Rattle.weld.specs.Weld.{warmStartWeld, solveWeld}
-use Rattle.joint.specs.declared.stage.Staged.{Staged}
-use Rattle.records.specs.Joint.{caseOf}
+
+-- what a stage leaves: the kind's record, and the velocities. The base of a joint never changes
+pub record Staged : Type 0 where
+  pub «union_» : JointUnion
+  pub velocities : Velocities
 
 abbrev pub staged : JointUnion → Velocities → Staged
 staged union velocities = record { «union_» = union; velocities = velocities }
@@ -41,11 +44,3 @@ solveJoint Other base h invH stateA stateB useBias = staged Other (velocitiesOf 
 unfoldable pub stageJoint : JointUnion → JointBase → Float → Float → BodyState → BodyState → ℕ → Staged
 stageJoint union base h invH stateA stateB stage =
     cond (eqb stage 0) (staged union (warmStartJoint union base stateA stateB)) (solveJoint union base h invH stateA stateB (eqb stage 1))
-
--- a joint taken as one of a kind, by the number of its case: one of another kind is left as it was
-unfoldable pub warmStartAs : ℕ → JointUnion → JointBase → BodyState → BodyState → Velocities
-warmStartAs kind union base stateA stateB = cond (eqb (caseOf union) kind) (warmStartJoint union base stateA stateB) (velocitiesOf stateA stateB)
-
-unfoldable pub solveAs : ℕ → JointUnion → JointBase → Float → Float → BodyState → BodyState → Bool → Staged
-solveAs kind union base h invH stateA stateB useBias =
-    cond (eqb (caseOf union) kind) (solveJoint union base h invH stateA stateB useBias) (staged union (velocitiesOf stateA stateB))

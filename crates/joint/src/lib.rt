@@ -1,6 +1,6 @@
-// A joint of any kind: one stage of it, as a call list works it, and the code of the stops at which
-// it pushes.
+// A joint of any kind: its prepare, the bodies that it names, the states of its bodies once a stage's
+// velocities are stored, and the code of the stops at which it pushes.
 pub mod index;
-pub mod stage;
+pub mod prepare;
 pub mod stop_code;
 pub mod store;

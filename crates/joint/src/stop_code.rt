@@ -14,14 +14,14 @@ pub struct StopCode {
 }
 
 // Whether a limit that is on pushes.
-pub fn is_pushing(enabled: bool, impulse: f32) -> bool
+fn is_pushing(enabled: bool, impulse: f32) -> bool
     ensures { λ r. ⌜ r ≡ D.isPushing enabled impulse ⌝ }
 {
     enabled && impulse > 0.0
 }
 
 // 1 for the lower limit, plus 2 for the upper, plus 4 for the swing.
-pub fn sum_stops(lower: bool, upper: bool, swing: bool) -> u32
+fn sum_stops(lower: bool, upper: bool, swing: bool) -> u32
     ensures { λ r. ⌜ r ≡ D.sumStops lower upper swing ⌝ }
 {
     let low = if lower { 1u32 } else { 0 };
@@ -30,7 +30,7 @@ pub fn sum_stops(lower: bool, upper: bool, swing: bool) -> u32
     low + high + cone
 }
 
-pub fn revolute_stops(joint: RevoluteJoint) -> u32
+fn revolute_stops(joint: RevoluteJoint) -> u32
     ensures { λ r. ⌜ r ≡ D.revoluteStops joint ⌝ }
 {
     let lower = is_pushing(joint.enable_limit, joint.lower_impulse);
@@ -38,7 +38,7 @@ pub fn revolute_stops(joint: RevoluteJoint) -> u32
     sum_stops(lower, upper, false)
 }
 
-pub fn spherical_stops(joint: SphericalJoint) -> u32
+fn spherical_stops(joint: SphericalJoint) -> u32
     ensures { λ r. ⌜ r ≡ D.sphericalStops joint ⌝ }
 {
     let lower = is_pushing(joint.enable_twist_limit, joint.lower_twist_impulse);

@@ -1,7 +1,7 @@
 // Scalars: absolute value, minimum, maximum, clamp, and the arctangent.
 ghost use mathlib.Core.Path.{_≡_};
 ghost use Rattle.math_functions.specs.Scalar as D;
-ghost use Rattle.math_functions.specs.Steps as Steps;
+use crate::arctangent::first_quadrant_angle;
 
 // The absolute value of a float. -0.0 stays as it is, since it is not below zero.
 pub fn abs_float(a: f32) -> f32
@@ -35,31 +35,6 @@ pub fn clamp_float(a: f32, lower: f32, upper: f32) -> f32
     } else {
         a
     }
-}
-
-// The angle of the point (x, y) in the first quadrant, where neither is below zero and one is above
-// it: an approximate arctangent of y / x.
-pub fn first_quadrant_angle(y: f32, x: f32) -> f32
-    ensures { λ r. ⌜ r ≡ Steps.firstQuadrantAngle y x ⌝ }
-{
-    let mx = max_float(y, x);
-    let mn = min_float(y, x);
-    let a = mn / mx;
-
-    // Minimax polynomial approximation to atan(a) on [0,1]
-    let s = a * a;
-    let c = s * a;
-    let q = s * s;
-    let mut r = 0.024840285 * q + 0.18681418;
-    let t = -0.094097948 * q - 0.33213072;
-    r = r * s + t;
-    r = r * c + a;
-
-    if y > x {
-        r = 1.57079637 - r;
-    }
-
-    r
 }
 
 // An approximate arctangent in the range [-pi, pi], the same on every machine.

@@ -1,19 +1,13 @@
 // The models that the programs run: a door on its hinge, a hip in its socket, and a strut welded to its
 // pier.
 ghost use mathlib.Core.Path.{_≡_};
-ghost use Rattle.records.specs.Joint.{caseOf};
-ghost use Rattle.models.specs.Model.{prepared};
-ghost use Rattle.revolute.specs.Revolute.{prepareRevoluteJoint};
-ghost use Rattle.spherical.specs.Spherical.{prepareSphericalJoint};
-ghost use Rattle.weld.specs.Weld.{prepareWeldJoint};
+ghost use Rattle.joint.specs.Prepare.{prepareJoint};
+use constraint::answer::Prepared;
+use joint::prepare::prepare_joint;
 use records::body::BodyRecord;
 use records::joint::JointSim;
-use records::joint::JointUnion;
-use revolute::prepare_revolute_joint;
 use solver::NO_SOFTNESS;
 use solver::StepContext;
-use spherical::prepare_spherical_joint;
-use weld::prepare_weld_joint;
 
 mod base;
 pub mod body;
@@ -44,52 +38,9 @@ pub const STEP: StepContext = StepContext {
     enable_warm_starting: true,
 };
 
-fn prepare_revolute(model: Model, context: StepContext) -> JointSim
-    ensures { λ r. ⌜ r ≡ prepareRevoluteJoint (model .joint) context (model .«body_a») (model .«body_b») .joint ⌝ }
+// What prepare answers of a model's joint.
+pub fn prepare(model: Model, context: StepContext) -> Prepared
+    ensures { λ r. ⌜ r ≡ prepareJoint (model .joint) context (model .«body_a») (model .«body_b») ⌝ }
 {
-    let p = prepare_revolute_joint(model.joint, context, model.body_a, model.body_b);
-    p.joint
-}
-
-fn prepare_spherical(model: Model, context: StepContext) -> JointSim
-    ensures { λ r. ⌜ r ≡ prepareSphericalJoint (model .joint) context (model .«body_a») (model .«body_b») .joint ⌝ }
-{
-    let p = prepare_spherical_joint(model.joint, context, model.body_a, model.body_b);
-    p.joint
-}
-
-fn prepare_weld(model: Model, context: StepContext) -> JointSim
-    ensures { λ r. ⌜ r ≡ prepareWeldJoint (model .joint) context (model .«body_a») (model .«body_b») .joint ⌝ }
-{
-    let p = prepare_weld_joint(model.joint, context, model.body_a, model.body_b);
-    p.joint
-}
-
-fn case_of(joint: JointSim) -> u32
-    ensures { λ r. ⌜ r ≡ caseOf (joint .«union_») ⌝ }
-{
-    let union_ = joint.union_;
-    match union_ {
-        JointUnion::Revolute(_) => 0,
-        JointUnion::Spherical(_) => 1,
-        JointUnion::Weld(_) => 2,
-        JointUnion::Other => 3,
-    }
-}
-
-// The joint of a model after the prepare of its kind.
-pub fn prepare(model: Model, context: StepContext) -> JointSim
-    ensures { λ r. ⌜ r ≡ prepared model context ⌝ }
-{
-    let case = case_of(model.joint);
-    if case == 0 {
-        return prepare_revolute(model, context);
-    }
-    if case == 1 {
-        return prepare_spherical(model, context);
-    }
-    if case == 2 {
-        return prepare_weld(model, context);
-    }
-    model.joint
+    prepare_joint(model.joint, context, model.body_a, model.body_b)
 }

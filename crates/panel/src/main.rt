@@ -26,15 +26,15 @@ const ROUNDS: [u8; 18] = [0, 0, 1, 0, 2, 0, 0, 1, 1, 1, 2, 1, 0, 2, 1, 2, 2, 2];
 
 // The joint of a door whose leaf is body k, prepared.
 pub fn hinge(k: u8) -> JointSim {
-    prepare(door(k), STEP)
+    prepare(door(k), STEP).joint
 }
 
 fn socket() -> JointSim {
-    prepare(hip(1, 2), STEP)
+    prepare(hip(1, 2), STEP).joint
 }
 
 fn weld() -> JointSim {
-    prepare(strut(3), STEP)
+    prepare(strut(3), STEP).joint
 }
 
 // The door's leaf is body 0, pelvis and thigh are 1 and 2, and the strut is 3.

@@ -48,7 +48,7 @@ pub struct BodyRecord {
 }
 
 // Is the body one that the solver writes to?
-pub fn is_dynamic(state: BodyState) -> bool
+fn is_dynamic(state: BodyState) -> bool
     ensures { λ r. ⌜ r ≡ D.isDynamic state ⌝ }
 {
     state.flags & DYNAMIC_FLAG != 0

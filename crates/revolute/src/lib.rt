@@ -20,8 +20,8 @@ use records::joint::JointUnion;
 use records::joint::RevoluteJoint;
 use solver::StepContext;
 
-pub mod rows;
-pub mod stages;
+mod rows;
+mod stages;
 
 // A joint of this kind.
 fn revolute_sim(base: JointBase, joint: RevoluteJoint) -> JointSim

@@ -14,8 +14,7 @@ use Rattle.records.specs.declared.joint.JointUnion.{JointUnion}
 use Rattle.records.specs.declared.joint.JointSim.{JointSim}
 use Rattle.records.specs.Body.{isDynamic, identityBodyState}
 use Rattle.constraint.specs.Answer.{jointSim}
-use Rattle.joint.specs.declared.stage.Staged.{Staged}
-use Rattle.joint.specs.Stage.{stageJoint}
+use Rattle.joint.specs.Stage.{Staged, stageJoint}
 use Rattle.scene.specs.declared.Scene.{Scene}
 use Rattle.scene.specs.Keep.{keepIf}
 use Rattle.scene.specs.Reorder.{runAll, Steps, or-left, or-right, reorder}

@@ -13,8 +13,7 @@ use Rattle.records.specs.declared.joint.JointUnion.{JointUnion}
 use Rattle.records.specs.Body.{identityBodyState}
 use Rattle.constraint.specs.declared.velocity.Velocities.{Velocities}
 use Rattle.constraint.specs.Answer.{jointSim}
-use Rattle.joint.specs.declared.stage.Staged.{Staged}
-use Rattle.joint.specs.Stage.{stageJoint}
+use Rattle.joint.specs.Stage.{Staged, stageJoint}
 use Rattle.scene.specs.declared.Scene.{Scene}
 use Rattle.scene.specs.declared.Verdict.{Verdict}
 use Rattle.scene.specs.declared.Run.{Run}

@@ -14,8 +14,7 @@ use Rattle.constraint.specs.declared.velocity.Velocities.{Velocities}
 use Rattle.revolute.specs.Facts as Revolute-facts
 use Rattle.spherical.specs.Facts as Spherical-facts
 use Rattle.weld.specs.Facts as Weld-facts
-use Rattle.joint.specs.declared.stage.Staged.{Staged}
-use Rattle.joint.specs.Stage.{staged, solveJoint, stageJoint}
+use Rattle.joint.specs.Stage.{Staged, staged, solveJoint, stageJoint}
 use Rattle.scene.specs.Claims.{settingsOf, limitsOf, LimitsNonNegative}
 
 -- by whether the stage is a warm start, which leaves `u`, or a solve, which leaves `s`

@@ -20,9 +20,9 @@ use records::joint::JointUnion;
 use records::joint::SphericalJoint;
 use solver::StepContext;
 
-pub mod prepare;
-pub mod rows;
-pub mod stages;
+mod prepare;
+mod rows;
+mod stages;
 
 // A joint of this kind.
 fn spherical_sim(base: JointBase, joint: SphericalJoint) -> JointSim

@@ -20,8 +20,8 @@ use records::joint::JointUnion;
 use records::joint::WeldJoint;
 use solver::StepContext;
 
-pub mod rows;
-pub mod stages;
+mod rows;
+mod stages;
 
 // A joint of this kind.
 fn weld_sim(base: JointBase, joint: WeldJoint) -> JointSim

@@ -5,7 +5,7 @@ use native.Mathlib.Omega.{arith}
 use lib.ListN.{length}
 use borrow.Author.Needs.{needs}
 use Rattle.scene.specs.Plain.{sameBelow}
-use Rattle.call_list.proofs.Lists.{same-more}
+use Rattle.call_list.proofs.Run.{same-more}
 use Rattle.call_list.proofs.is_still.Statement.{statement}
 use Rattle.call_list.proofs.is_still.Tie as tie
 

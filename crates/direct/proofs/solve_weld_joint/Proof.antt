@@ -1,9 +1,9 @@
--- `solve_weld_joint` meets its contract: it is the function of `Solve.antt`, at kind 2 and `solve_as_weld`. Assumes nothing.
+-- `solve_weld_joint` meets its contract: it is the function of `Solve.antt`, at kind 2 and `weld::solve_weld_joint`. Assumes nothing.
 use contract.Running.{givenOf, tables, tablesOf}
 use denote.Triple.Spec.{tripleOf}
 use denote.Triple.Table.{entered, cited}
 use Rattle.direct.proofs.Calls.{Read, Write}
-use Rattle.direct.proofs.Stages.{Find, SolveAs, StagedJoint}
+use Rattle.direct.proofs.Stages.{Find, SolveOf}
 use Rattle.direct.proofs.Solve.{meets}
 use Rattle.direct.proofs.places.find_places.Symbol as find-def
 use Rattle.direct.proofs.places.find_places.Symbol.{name as #find}
@@ -11,12 +11,9 @@ use Rattle.direct.proofs.places.find_places.Met as find-thm
 use Rattle.direct.proofs.states.read_states.Symbol as read-def
 use Rattle.direct.proofs.states.read_states.Symbol.{name as #read}
 use Rattle.direct.proofs.states.read_states.Met as read-thm
-use Rattle.joint.proofs.stage.solve_as_weld.Symbol as stage-def
-use Rattle.joint.proofs.stage.solve_as_weld.Symbol.{name as #stage}
-use Rattle.joint.proofs.stage.solve_as_weld.Met as stage-thm
-use Rattle.joint.proofs.stage.staged_joint.Symbol as staged-def
-use Rattle.joint.proofs.stage.staged_joint.Symbol.{name as #staged}
-use Rattle.joint.proofs.stage.staged_joint.Met as staged-thm
+use Rattle.weld.proofs.solve_weld_joint.Symbol as stage-def
+use Rattle.weld.proofs.solve_weld_joint.Symbol.{name as #stage}
+use Rattle.weld.proofs.solve_weld_joint.Met as stage-thm
 use Rattle.direct.proofs.states.write_states.Symbol as write-def
 use Rattle.direct.proofs.states.write_states.Symbol.{name as #write}
 use Rattle.direct.proofs.states.write_states.Met as write-thm
@@ -33,6 +30,5 @@ solve-weld-joint-spec 𝓤 H 𝓜 𝓖 𝓡 =
     (meets 2 tt #stage 𝓤 H (𝓖 .A) (givenOf 𝓤 H 𝓜 𝓖) (𝓜 .mem) (𝓡 .run) (tablesOf 𝓤 H 𝓜 (tables 𝓤 H 𝓜 𝓡 code.env))
     (cited 𝓤 H (Find 𝓤 H (𝓖 .A) (𝓜 .mem) (𝓡 .run)) 𝓜 𝓡 code.env #find find-def.routine code.calls-direct·places·find-places (find-thm.met 𝓤 H 𝓜 𝓖 𝓡))
     (cited 𝓤 H (Read 𝓤 H (𝓖 .A) (𝓜 .mem) (𝓡 .run)) 𝓜 𝓡 code.env #read read-def.routine code.calls-direct·states·read-states (read-thm.met 𝓤 H 𝓜 𝓖 𝓡))
-    (cited 𝓤 H (SolveAs 𝓤 H (𝓖 .A) 2) 𝓜 𝓡 code.env #stage stage-def.routine code.calls-joint·stage·solve-as-weld (stage-thm.met 𝓤 H 𝓜 𝓖 𝓡))
-    (cited 𝓤 H (StagedJoint 𝓤 H (𝓖 .A) (𝓜 .mem) (𝓡 .run)) 𝓜 𝓡 code.env #staged staged-def.routine code.calls-joint·stage·staged-joint (staged-thm.met 𝓤 H 𝓜 𝓖 𝓡))
+    (cited 𝓤 H (SolveOf 𝓤 H (𝓖 .A) 2) 𝓜 𝓡 code.env #stage stage-def.routine code.calls-weld·solve-weld-joint (stage-thm.met 𝓤 H 𝓜 𝓖 𝓡))
     (cited 𝓤 H (Write 𝓤 H (𝓖 .A) (𝓜 .mem) (𝓡 .run)) 𝓜 𝓡 code.env #write write-def.routine code.calls-direct·states·write-states (write-thm.met 𝓤 H 𝓜 𝓖 𝓡)))

@@ -1,9 +1,9 @@
--- `warm_start_revolute_joint` meets its contract: it is the function of `WarmStart.antt`, at kind 0 and `warm_start_as_revolute`. Assumes nothing.
+-- `warm_start_revolute_joint` meets its contract: it is the function of `WarmStart.antt`, at kind 0 and `revolute::warm_start_revolute_joint`. Assumes nothing.
 use contract.Running.{givenOf, tables, tablesOf}
 use denote.Triple.Spec.{tripleOf}
 use denote.Triple.Table.{entered, cited}
 use Rattle.direct.proofs.Calls.{Read, Write}
-use Rattle.direct.proofs.Stages.{Find, WarmStartAs}
+use Rattle.direct.proofs.Stages.{Find, WarmStartOf}
 use Rattle.direct.proofs.WarmStart.{meets}
 use Rattle.direct.proofs.places.find_places.Symbol as find-def
 use Rattle.direct.proofs.places.find_places.Symbol.{name as #find}
@@ -11,9 +11,9 @@ use Rattle.direct.proofs.places.find_places.Met as find-thm
 use Rattle.direct.proofs.states.read_states.Symbol as read-def
 use Rattle.direct.proofs.states.read_states.Symbol.{name as #read}
 use Rattle.direct.proofs.states.read_states.Met as read-thm
-use Rattle.joint.proofs.stage.warm_start_as_revolute.Symbol as stage-def
-use Rattle.joint.proofs.stage.warm_start_as_revolute.Symbol.{name as #stage}
-use Rattle.joint.proofs.stage.warm_start_as_revolute.Met as stage-thm
+use Rattle.revolute.proofs.warm_start_revolute_joint.Symbol as stage-def
+use Rattle.revolute.proofs.warm_start_revolute_joint.Symbol.{name as #stage}
+use Rattle.revolute.proofs.warm_start_revolute_joint.Met as stage-thm
 use Rattle.direct.proofs.states.write_states.Symbol as write-def
 use Rattle.direct.proofs.states.write_states.Symbol.{name as #write}
 use Rattle.direct.proofs.states.write_states.Met as write-thm
@@ -30,5 +30,5 @@ warm-start-revolute-joint-spec 𝓤 H 𝓜 𝓖 𝓡 =
     (meets 0 tt #stage 𝓤 H (𝓖 .A) (givenOf 𝓤 H 𝓜 𝓖) (𝓜 .mem) (𝓡 .run) (tablesOf 𝓤 H 𝓜 (tables 𝓤 H 𝓜 𝓡 code.env))
     (cited 𝓤 H (Find 𝓤 H (𝓖 .A) (𝓜 .mem) (𝓡 .run)) 𝓜 𝓡 code.env #find find-def.routine code.calls-direct·places·find-places (find-thm.met 𝓤 H 𝓜 𝓖 𝓡))
     (cited 𝓤 H (Read 𝓤 H (𝓖 .A) (𝓜 .mem) (𝓡 .run)) 𝓜 𝓡 code.env #read read-def.routine code.calls-direct·states·read-states (read-thm.met 𝓤 H 𝓜 𝓖 𝓡))
-    (cited 𝓤 H (WarmStartAs 𝓤 H (𝓖 .A) 0) 𝓜 𝓡 code.env #stage stage-def.routine code.calls-joint·stage·warm-start-as-revolute (stage-thm.met 𝓤 H 𝓜 𝓖 𝓡))
+    (cited 𝓤 H (WarmStartOf 𝓤 H (𝓖 .A) 0) 𝓜 𝓡 code.env #stage stage-def.routine code.calls-revolute·warm-start-revolute-joint (stage-thm.met 𝓤 H 𝓜 𝓖 𝓡))
     (cited 𝓤 H (Write 𝓤 H (𝓖 .A) (𝓜 .mem) (𝓡 .run)) 𝓜 𝓡 code.env #write write-def.routine code.calls-direct·states·write-states (write-thm.met 𝓤 H 𝓜 𝓖 𝓡)))

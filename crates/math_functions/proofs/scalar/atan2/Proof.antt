@@ -11,7 +11,7 @@ use Rattle.math_functions.proofs.scalar.atan2.Tie as tie
 use Rattle.math_functions.proofs.scalar.atan2.Reads as reads
 use Rattle.math_functions.proofs.scalar.atan2.Lts as lts
 use Rattle.math_functions.proofs.scalar.abs_float.Reads as abs-float-reads
-use Rattle.math_functions.proofs.scalar.first_quadrant_angle.Reads as first-quadrant-angle-reads
+use Rattle.math_functions.proofs.arctangent.first_quadrant_angle.Reads as first-quadrant-angle-reads
 
 returns : tie.Need-returns
 unfolding atan2

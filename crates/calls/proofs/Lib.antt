@@ -1,2 +1,0 @@
-mod Turn
-pub mod Lists
