@@ -2,7 +2,8 @@
 use mathlib.Core.Path.{_≡_, refl}
 use mathlib.Core.Bool.{Bool, true, false, cond, _||_}
 use mathlib.Core.Option.{Option, none, some, Option·elim}
-use Prim.Native.Nat.{ℕ}
+use Prim.Native.Nat.{ℕ, _≤_}
+use native.Mathlib.Omega.{arith}
 use lib.Ieee as Ieee
 use lib.Ieee.{Float}
 use Rattle.math_functions.specs.declared.types.Vec3.{Vec3}
@@ -58,12 +59,35 @@ module _ (angle lowerAngle upperAngle : Float) (s : Softness) (invH : Float) (us
 
 -- ---- a stage over a joint of any kind: `found` is the record of the kind called, where the joint has it; `refusal` answers for every other joint
 
+-- a stage's number is 0 or 1, and its place 0
+pub record AtMostOne (number place : ℕ) : Type 0 where
+  pub number-bound : number ≤ 1
+  pub place-zero : place ≡ 0
+
+pub zero-at-most : AtMostOne 0 0
+zero-at-most = record { number-bound = omega arith; place-zero = refl }
+
+pub one-at-most : AtMostOne 1 0
+one-at-most = record { number-bound = omega arith; place-zero = refl }
+
+-- two joints are of the kind, and `P` holds of their records
+pub record BothOfKind {K : Type 0} (kindOf : JointUnion → Option K) (P : K → K → Type 0) (before after : JointUnion) : Type 0 where
+  pub joint : K
+  pub next : K
+  pub was : kindOf before ≡ some joint
+  pub became : kindOf after ≡ some next
+  pub holds : P joint next
+
 module _ {K A : Type 0} where
+  -- what holds of the refusal and of every work
+  pub always : (P : A → Type 0) (found : Option K) (refusal : A) (work : K → A) → P refusal → ((k : K) → P (work k)) → P (Option·elim found refusal work)
+  unfolding Option·elim
+  always P none refusal work p q = p
+  always P (some k) refusal work p q = q k
+
   -- what a refusal and every work leave alike
   pub kept : {B : Type 0} (f : A → B) (b : B) (found : Option K) (refusal : A) (work : K → A) → f refusal ≡ b → ((k : K) → f (work k) ≡ b) → f (Option·elim found refusal work) ≡ b
-  unfolding Option·elim
-  kept f b none refusal work p q = p
-  kept f b (some k) refusal work p q = q k
+  kept f b found refusal work p q = always (λ a. f a ≡ b) found refusal work p q
 
   pub numbered : (number : A → ℕ) (found : Option K) (refusal : A) (work : K → A) → number refusal ≡ 1 → ((k : K) → number (work k) ≡ 0) → number (Option·elim found refusal work) ≡ cond (isSome found) 0 1
   unfolding Option·elim
@@ -83,3 +107,20 @@ module _ {K A : Type 0} where
       go : (found : Option K) → kindOf u ≡ found → isSome (kindOf (union (Option·elim found refusal work))) ≡ isSome found
       go none e = rw (p, e)
       go (some k) e = q k
+
+  -- what holds of every work holds where the number is 0
+  pub accepted : (number : A → ℕ) (P : A → Type 0) (found : Option K) (refusal : A) (work : K → A)
+      → number refusal ≡ 1 → ((k : K) → P (work k)) → number (Option·elim found refusal work) ≡ 0 → P (Option·elim found refusal work)
+  accepted number P found refusal work one q = always (λ a. number a ≡ 0 → P a) found refusal work (λ e. absurd (omega (arith, one, e))) (λ k e. q k)
+
+  -- and there the joint was of the kind and still is, if every work leaves it so
+  pub both-of-kind : (number : A → ℕ) (union : A → JointUnion) (kindOf : JointUnion → Option K) (P : K → K → Type 0) (u : JointUnion)
+      (refusal : A) (work : K → A)
+      → number refusal ≡ 1 → ((k : K) → (next : K) × (kindOf (union (work k)) ≡ some next) × P k next)
+      → number (Option·elim (kindOf u) refusal work) ≡ 0 → BothOfKind kindOf P u (union (Option·elim (kindOf u) refusal work))
+  unfolding Option·elim
+  both-of-kind number union kindOf P u refusal work one q = by (kindOf u) refl
+    where
+      by : (found : Option K) → kindOf u ≡ found → number (Option·elim found refusal work) ≡ 0 → BothOfKind kindOf P u (union (Option·elim found refusal work))
+      by none e z = absurd (omega (arith, one, z))
+      by (some k) e z = let r = q k in record { joint = k; next = r .0; was = e; became = r .1; holds = r .2 }

@@ -7,3 +7,4 @@ pub mod Prepare
 pub mod Answer
 pub mod Steps
 pub mod Facts
+pub mod Fixed

@@ -8,3 +8,4 @@ pub mod Matrix
 pub mod Transform
 pub mod Constants
 pub mod Steps
+pub mod Facts

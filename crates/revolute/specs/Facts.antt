@@ -18,10 +18,12 @@ use Rattle.constraint.specs.declared.answer.Prepared.{Prepared}
 use Rattle.constraint.specs.declared.answer.WarmStarted.{WarmStarted}
 use Rattle.constraint.specs.declared.answer.Solved.{Solved}
 use Rattle.constraint.specs.Velocity.{velocitiesOf}
+use Rattle.constraint.specs.Prepare.{prepareBase}
 use Rattle.constraint.specs.Answer.{notPrepared, notWarmStarted, notSolved}
-use Rattle.constraint.specs.Facts.{NonNegative, worked, twist-lower-nonNegative, twist-upper-nonNegative, kept, numbered, refused, case-kept}
+use Rattle.constraint.specs.Facts.{NonNegative, worked, twist-lower-nonNegative, twist-upper-nonNegative, AtMostOne, zero-at-most, one-at-most, BothOfKind}
+use Rattle.constraint.specs.Facts.{always, kept, numbered, refused, case-kept, accepted, both-of-kind}
 use Rattle.revolute.specs.Revolute.{half, withImpulses, jointRotation, solveSpring, solveMotor, solveLimits, solvePerp, solvePoint, revoluteSolved, solveRevolute, warmAngularImpulse, warmStartRevolute}
-use Rattle.revolute.specs.Revolute.{prepareRevoluteJoint, warmStartRevoluteJoint, solveRevoluteJoint}
+use Rattle.revolute.specs.Revolute.{prepareRevolute, prepareRevoluteJoint, warmStartRevoluteJoint, solveRevoluteJoint}
 
 -- 0.5 is 2 ^ -1
 pub half-is : half ≡ fin false 1 (negsuc 0)
@@ -154,6 +156,19 @@ module _ (sim : JointSim) (context : StepContext) (bodyA bodyB : BodyRecord) whe
   unfolding prepareRevoluteJoint
   prepare-case = case-kept (λ (r : Prepared). r .joint .«union_») asRevolute (sim .«union_») _ _ refl (λ k. refl)
 
+  -- the number is at most 1, and the place 0
+  pub prepare-range : AtMostOne (prepareRevoluteJoint sim context bodyA bodyB .number) (prepareRevoluteJoint sim context bodyA bodyB .place)
+  unfolding prepareRevoluteJoint
+  prepare-range = always (λ (r : Prepared). AtMostOne (r .number) (r .place)) (asRevolute (sim .«union_»)) _ _ one-at-most (λ k. zero-at-most)
+
+  -- where the number is 0 the base is what `prepareBase` makes of it
+  pub prepare-base : prepareRevoluteJoint sim context bodyA bodyB .number ≡ 0
+      → prepareRevoluteJoint sim context bodyA bodyB .joint .base ≡ prepareBase (sim .base) bodyA bodyB
+  unfolding prepareRevoluteJoint prepareRevolute
+  prepare-base =
+      accepted (λ (r : Prepared). r .number) (λ (r : Prepared). r .joint .base ≡ prepareBase (sim .base) bodyA bodyB) (asRevolute (sim .«union_»)) _ _
+      refl (λ k. refl)
+
 module _ (sim : JointSim) (stateA stateB : BodyState) where
   -- a warm start changes no field of the joint
   pub warm-start-joint : warmStartRevoluteJoint sim stateA stateB .joint ≡ sim
@@ -169,6 +184,11 @@ module _ (sim : JointSim) (stateA stateB : BodyState) where
   pub warm-start-refused : isRevolute (sim .«union_») ≡ false → warmStartRevoluteJoint sim stateA stateB ≡ notWarmStarted sim stateA stateB
   unfolding warmStartRevoluteJoint
   warm-start-refused = refused (asRevolute (sim .«union_»)) _ _
+
+  -- the number is at most 1, and the place 0
+  pub warm-start-range : AtMostOne (warmStartRevoluteJoint sim stateA stateB .number) (warmStartRevoluteJoint sim stateA stateB .place)
+  unfolding warmStartRevoluteJoint
+  warm-start-range = always (λ (r : WarmStarted). AtMostOne (r .number) (r .place)) (asRevolute (sim .«union_»)) _ _ one-at-most (λ k. zero-at-most)
 
 module _ (sim : JointSim) (context : StepContext) (stateA stateB : BodyState) (useBias : Bool) where
   -- a solve changes nothing of the joint but the revolute record
@@ -190,3 +210,17 @@ module _ (sim : JointSim) (context : StepContext) (stateA stateB : BodyState) (u
   pub solve-refused : isRevolute (sim .«union_») ≡ false → solveRevoluteJoint sim context stateA stateB useBias ≡ notSolved sim stateA stateB
   unfolding solveRevoluteJoint
   solve-refused = refused (asRevolute (sim .«union_»)) _ _
+
+  -- the number is at most 1, and the place 0
+  pub solve-range :
+      AtMostOne (solveRevoluteJoint sim context stateA stateB useBias .number) (solveRevoluteJoint sim context stateA stateB useBias .place)
+  unfolding solveRevoluteJoint
+  solve-range = always (λ (r : Solved). AtMostOne (r .number) (r .place)) (asRevolute (sim .«union_»)) _ _ one-at-most (λ k. zero-at-most)
+
+  -- where the number is 0 and rotation is not fixed, the enabled limits' impulses of the joint that is returned are zero or positive, never a NaN
+  pub solve-joint-limits : solveRevoluteJoint sim context stateA stateB useBias .number ≡ 0 → sim .base .«fixed_rotation» ≡ false
+      → BothOfKind asRevolute LimitsNonNegative (sim .«union_») (solveRevoluteJoint sim context stateA stateB useBias .joint .«union_»)
+  unfolding solveRevoluteJoint
+  solve-joint-limits e free =
+      both-of-kind (λ (r : Solved). r .number) (λ (r : Solved). r .joint .«union_») asRevolute LimitsNonNegative (sim .«union_») _ _ refl
+      (λ j. (_, refl, solve-limits (sim .base) j (context .h) (context .«inv_h») stateA stateB useBias free)) e

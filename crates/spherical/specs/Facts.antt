@@ -21,9 +21,12 @@ use Rattle.constraint.specs.declared.answer.Prepared.{Prepared}
 use Rattle.constraint.specs.declared.answer.WarmStarted.{WarmStarted}
 use Rattle.constraint.specs.declared.answer.Solved.{Solved}
 use Rattle.constraint.specs.Velocity.{velocitiesOf}
+use Rattle.constraint.specs.Prepare.{prepareBase}
 use Rattle.constraint.specs.Answer.{notPrepared, notWarmStarted, notSolved}
-use Rattle.constraint.specs.Facts.{NonNegative, worked, upperLimitRow-nonNegative, twist-lower-nonNegative, twist-upper-nonNegative, kept, numbered, refused, case-kept}
-use Rattle.spherical.specs.Spherical.{withImpulses, coneRow, sphericalSolved, warmStartSpherical, solveSpherical, prepareSphericalJoint, warmStartSphericalJoint, solveSphericalJoint}
+use Rattle.constraint.specs.Facts.{NonNegative, worked, upperLimitRow-nonNegative, twist-lower-nonNegative, twist-upper-nonNegative}
+use Rattle.constraint.specs.Facts.{AtMostOne, zero-at-most, one-at-most, BothOfKind, always, kept, numbered, refused, case-kept, accepted, both-of-kind}
+use Rattle.spherical.specs.Spherical.{withImpulses, coneRow, sphericalSolved, warmStartSpherical, solveSpherical, prepareSpherical}
+use Rattle.spherical.specs.Spherical.{prepareSphericalJoint, warmStartSphericalJoint, solveSphericalJoint}
 
 -- ---- limits
 
@@ -168,6 +171,19 @@ module _ (sim : JointSim) (context : StepContext) (bodyA bodyB : BodyRecord) whe
   unfolding prepareSphericalJoint
   prepare-case = case-kept (λ (r : Prepared). r .joint .«union_») asSpherical (sim .«union_») _ _ refl (λ k. refl)
 
+  -- the number is at most 1, and the place 0
+  pub prepare-range : AtMostOne (prepareSphericalJoint sim context bodyA bodyB .number) (prepareSphericalJoint sim context bodyA bodyB .place)
+  unfolding prepareSphericalJoint
+  prepare-range = always (λ (r : Prepared). AtMostOne (r .number) (r .place)) (asSpherical (sim .«union_»)) _ _ one-at-most (λ k. zero-at-most)
+
+  -- where the number is 0 the base is what `prepareBase` makes of it
+  pub prepare-base : prepareSphericalJoint sim context bodyA bodyB .number ≡ 0
+      → prepareSphericalJoint sim context bodyA bodyB .joint .base ≡ prepareBase (sim .base) bodyA bodyB
+  unfolding prepareSphericalJoint prepareSpherical
+  prepare-base =
+      accepted (λ (r : Prepared). r .number) (λ (r : Prepared). r .joint .base ≡ prepareBase (sim .base) bodyA bodyB) (asSpherical (sim .«union_»)) _ _
+      refl (λ k. refl)
+
 module _ (sim : JointSim) (stateA stateB : BodyState) where
   -- a warm start changes no field of the joint
   pub warm-start-joint : warmStartSphericalJoint sim stateA stateB .joint ≡ sim
@@ -183,6 +199,11 @@ module _ (sim : JointSim) (stateA stateB : BodyState) where
   pub warm-start-refused : isSpherical (sim .«union_») ≡ false → warmStartSphericalJoint sim stateA stateB ≡ notWarmStarted sim stateA stateB
   unfolding warmStartSphericalJoint
   warm-start-refused = refused (asSpherical (sim .«union_»)) _ _
+
+  -- the number is at most 1, and the place 0
+  pub warm-start-range : AtMostOne (warmStartSphericalJoint sim stateA stateB .number) (warmStartSphericalJoint sim stateA stateB .place)
+  unfolding warmStartSphericalJoint
+  warm-start-range = always (λ (r : WarmStarted). AtMostOne (r .number) (r .place)) (asSpherical (sim .«union_»)) _ _ one-at-most (λ k. zero-at-most)
 
 module _ (sim : JointSim) (context : StepContext) (stateA stateB : BodyState) (useBias : Bool) where
   -- a solve changes nothing of the joint but the spherical record
@@ -204,3 +225,17 @@ module _ (sim : JointSim) (context : StepContext) (stateA stateB : BodyState) (u
   pub solve-refused : isSpherical (sim .«union_») ≡ false → solveSphericalJoint sim context stateA stateB useBias ≡ notSolved sim stateA stateB
   unfolding solveSphericalJoint
   solve-refused = refused (asSpherical (sim .«union_»)) _ _
+
+  -- the number is at most 1, and the place 0
+  pub solve-range :
+      AtMostOne (solveSphericalJoint sim context stateA stateB useBias .number) (solveSphericalJoint sim context stateA stateB useBias .place)
+  unfolding solveSphericalJoint
+  solve-range = always (λ (r : Solved). AtMostOne (r .number) (r .place)) (asSpherical (sim .«union_»)) _ _ one-at-most (λ k. zero-at-most)
+
+  -- where the number is 0 and rotation is not fixed, the enabled limits' impulses of the joint that is returned are zero or positive, never a NaN
+  pub solve-joint-limits : solveSphericalJoint sim context stateA stateB useBias .number ≡ 0 → sim .base .«fixed_rotation» ≡ false
+      → BothOfKind asSpherical LimitsNonNegative (sim .«union_») (solveSphericalJoint sim context stateA stateB useBias .joint .«union_»)
+  unfolding solveSphericalJoint
+  solve-joint-limits e free =
+      both-of-kind (λ (r : Solved). r .number) (λ (r : Solved). r .joint .«union_») asSpherical LimitsNonNegative (sim .«union_») _ _ refl
+      (λ j. (_, refl, solve-limits (sim .base) j (context .h) (context .«inv_h») stateA stateB useBias free)) e

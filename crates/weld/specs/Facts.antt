@@ -16,9 +16,11 @@ use Rattle.constraint.specs.declared.answer.Prepared.{Prepared}
 use Rattle.constraint.specs.declared.answer.WarmStarted.{WarmStarted}
 use Rattle.constraint.specs.declared.answer.Solved.{Solved}
 use Rattle.constraint.specs.Velocity.{velocitiesOf}
+use Rattle.constraint.specs.Prepare.{prepareBase}
 use Rattle.constraint.specs.Answer.{notPrepared, notWarmStarted, notSolved}
-use Rattle.constraint.specs.Facts.{kept, numbered, refused, case-kept}
-use Rattle.weld.specs.Weld.{withImpulses, weldSolved, warmStartWeld, solveAngular, solvePoint, solveWeld, prepareWeldJoint, warmStartWeldJoint, solveWeldJoint}
+use Rattle.constraint.specs.Facts.{AtMostOne, zero-at-most, one-at-most, always, kept, numbered, refused, case-kept, accepted}
+use Rattle.weld.specs.Weld.{withImpulses, weldSolved, warmStartWeld, solveAngular, solvePoint, solveWeld}
+use Rattle.weld.specs.Weld.{prepareWeld, prepareWeldJoint, warmStartWeldJoint, solveWeldJoint}
 
 -- the joint with other indices
 abbrev pub withIndices : WeldJoint → ℤ → ℤ → WeldJoint
@@ -102,6 +104,19 @@ module _ (sim : JointSim) (c : StepContext) (bodyA bodyB : BodyRecord) where
   unfolding prepareWeldJoint
   prepare-case = case-kept (λ (r : Prepared). r .joint .«union_») asWeld (sim .«union_») _ _ refl (λ k. refl)
 
+  -- the number is at most 1, and the place 0
+  pub prepare-range : AtMostOne (prepareWeldJoint sim c bodyA bodyB .number) (prepareWeldJoint sim c bodyA bodyB .place)
+  unfolding prepareWeldJoint
+  prepare-range = always (λ (r : Prepared). AtMostOne (r .number) (r .place)) (asWeld (sim .«union_»)) _ _ one-at-most (λ k. zero-at-most)
+
+  -- where the number is 0 the base is what `prepareBase` makes of it
+  pub prepare-base : prepareWeldJoint sim c bodyA bodyB .number ≡ 0
+      → prepareWeldJoint sim c bodyA bodyB .joint .base ≡ prepareBase (sim .base) bodyA bodyB
+  unfolding prepareWeldJoint prepareWeld
+  prepare-base =
+      accepted (λ (r : Prepared). r .number) (λ (r : Prepared). r .joint .base ≡ prepareBase (sim .base) bodyA bodyB) (asWeld (sim .«union_»)) _ _
+      refl (λ k. refl)
+
 module _ (sim : JointSim) (a b : BodyState) where
   -- a warm start changes no field of the joint, so base and case are as they were
   pub warm-start-joint : warmStartWeldJoint sim a b .joint ≡ sim
@@ -117,6 +132,11 @@ module _ (sim : JointSim) (a b : BodyState) where
   pub warm-start-refused : isWeld (sim .«union_») ≡ false → warmStartWeldJoint sim a b ≡ notWarmStarted sim a b
   unfolding warmStartWeldJoint
   warm-start-refused = refused (asWeld (sim .«union_»)) _ _
+
+  -- the number is at most 1, and the place 0
+  pub warm-start-range : AtMostOne (warmStartWeldJoint sim a b .number) (warmStartWeldJoint sim a b .place)
+  unfolding warmStartWeldJoint
+  warm-start-range = always (λ (r : WarmStarted). AtMostOne (r .number) (r .place)) (asWeld (sim .«union_»)) _ _ one-at-most (λ k. zero-at-most)
 
 module _ (sim : JointSim) (c : StepContext) (a b : BodyState) (useBias : Bool) where
   -- a solve changes nothing of the joint but the weld record
@@ -138,3 +158,8 @@ module _ (sim : JointSim) (c : StepContext) (a b : BodyState) (useBias : Bool) w
   pub solve-refused : isWeld (sim .«union_») ≡ false → solveWeldJoint sim c a b useBias ≡ notSolved sim a b
   unfolding solveWeldJoint
   solve-refused = refused (asWeld (sim .«union_»)) _ _
+
+  -- the number is at most 1, and the place 0
+  pub solve-range : AtMostOne (solveWeldJoint sim c a b useBias .number) (solveWeldJoint sim c a b useBias .place)
+  unfolding solveWeldJoint
+  solve-range = always (λ (r : Solved). AtMostOne (r .number) (r .place)) (asWeld (sim .«union_»)) _ _ one-at-most (λ k. zero-at-most)
