@@ -3,3 +3,4 @@ pub mod Prepare
 pub mod Stage
 pub mod StopCode
 pub mod Store
+pub mod Claims
