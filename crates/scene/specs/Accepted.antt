@@ -16,6 +16,7 @@ use Rattle.scene.specs.declared.Verdict.{Verdict}
 use Rattle.scene.specs.declared.Run.{Run}
 use Rattle.joint.specs.Index.{indexA, indexB, badIndex}
 use Rattle.records.specs.Joint.{caseOf, isOther}
+use Rattle.scene.specs.Reorder.{Every}
 use Rattle.scene.specs.Scene.{jointAt}
 use Rattle.scene.specs.Calls.{Call, calls}
 use Rattle.scene.specs.Plain.{cause, verdictOf, firstCause, earlyCause, verdict, Accepted, done, refused, runCalls, plainRun}
@@ -167,6 +168,23 @@ answers-none ts v a = (λ e. a .none e .0, λ h. by (eqb (v .number) 0) refl h)
     by true e h = eqb-true (v .number) 0 e
     by false e h = absurd (none-first ts (v .number) (v .place) h (a .found (eqb-false (v .number) 0 e)))
 
+-- what holds of the number and the place of every test, and of 0 and 0, holds of the answer
+abbrev pub OfTests : (ℕ → ℕ → Type 0) → List Test → Type 0
+OfTests Q [] = Unit {0}
+OfTests Q (t ∷ ts) = Q (t .number) (t .place) × OfTests Q ts
+
+first-holds : (Q : ℕ → ℕ → Type 0) (ts : List Test) (n p : ℕ) → OfTests Q ts → FirstCause ts n p → Q n p
+first-holds Q [] n p h f = absurd f
+first-holds Q (t ∷ ts) n p h (inl f) = rw (f .1, f .2) (h .0)
+first-holds Q (t ∷ ts) n p h (inr f) = first-holds Q ts n p (h .1) (f .1)
+
+pub answers-hold : (Q : ℕ → ℕ → Type 0) (ts : List Test) (v : Verdict) → Answers ts v → Q 0 0 → OfTests Q ts → Q (v .number) (v .place)
+answers-hold Q ts v a zeros h = by (eqb (v .number) 0) refl
+  where
+    by : (b : Bool) → eqb (v .number) 0 ≡ b → Q (v .number) (v .place)
+    by true e = let z = eqb-true (v .number) 0 e in rw (z, a .none z .1) zeros
+    by false e = first-holds Q ts (v .number) (v .place) h (a .found (eqb-false (v .number) 0 e))
+
 -- ---- a run is worked, or refused
 
 pub by-verdict : (s : Scene) (l : List ℕ) (P : Run → Type 0) → (Accepted s l → P (done s (runCalls (calls l) s))) → (verdict s l .number ≢ 0 → P (refused (verdict s l) s)) → P (plainRun s l)
@@ -218,6 +236,17 @@ no-cause-by s p c =
         by : (b : Bool) → eqb n 0 ≡ b → cond b (verdictOf 0 0) (verdictOf n p) .number ≡ 0 → n ≡ 0
         by true f e = eqb-true n 0 f
         by false f e = e
+
+-- no cause of any call: each has the number 0
+pub no-causes : (s : Scene) (p : ℕ) (l : List Call) → NoCause (callTests s p l) → Every (λ c. cause s c ≡ 0) l
+no-causes s p [] h = tt
+no-causes s p (c ∷ l) h = (no-cause-by s p c .0 (head-of s p c l h), no-causes s (p + 1) l (h .1 .1 .1 .1 .1))
+
+pub causes-none : (s : Scene) (p : ℕ) (l : List Call) → Every (λ c. cause s c ≡ 0) l → NoCause (callTests s p l)
+causes-none s p [] h = tt
+causes-none s p (c ∷ l) h =
+    let g = no-cause-by s p c .1 (h .0) in
+    (g .0, (g .1 .0, (g .1 .1 .0, (g .1 .1 .1 .0, (g .1 .1 .1 .1 .0, causes-none s (p + 1) l (h .1))))))
 
 pub no-cause-kept : (s t : Scene) → Framed s t → (p : ℕ) (c : Call) → NoCause (callTests s p (c ∷ [])) → NoCause (callTests t p (c ∷ []))
 no-cause-kept s t f p c h = no-cause-by t p c .1 (cause-kept s t f c ∙ no-cause-by s p c .0 h)

@@ -95,6 +95,20 @@ Numbers = (s : Scene) (l : List ℕ) (number place : ℕ) → number ≢ 0
 abbrev pub Acceptance : Type 0
 Acceptance = (s : Scene) (l : List ℕ) → ((plainRun s l .number ≡ 0) ↔ NoCause (tests s l)) × (plainRun s l .number ≡ 0 → plainRun s l .place ≡ 0)
 
+-- A list is accepted exactly where its run answers 0.
+abbrev pub AcceptedIsZero : Type 0
+AcceptedIsZero = (s : Scene) (l : List ℕ) → Accepted s l ↔ (plainRun s l .number ≡ 0)
+
+-- a number of 0 to 7; place 0 where no call is refused (0, 6, 7), and else the position of one of so many calls (1 to 5)
+pub record InRange (callCount number place : ℕ) : Type 0 where
+  pub number-bound : number ≤ 7
+  pub place-zero : (number ≡ 0) ⊎ (6 ≤ number) → place ≡ 0
+  pub place-bound : number ≢ 0 → number ≤ 5 → place < callCount
+
+-- No number but 0 to 7 is answered, and no place but 0 and the calls' positions.
+abbrev pub Range : Type 0
+Range = (s : Scene) (l : List ℕ) → InRange (length (calls l)) (plainRun s l .number) (plainRun s l .place)
+
 -- A refused run is not still and returns the scene unaltered.
 abbrev pub Refusal : Type 0
 Refusal = (s : Scene) (l : List ℕ) → plainRun s l .number ≢ 0 → (plainRun s l .still ≡ false) × (plainRun s l .scene ≡ s)
@@ -103,6 +117,22 @@ Refusal = (s : Scene) (l : List ℕ) → plainRun s l .number ≢ 0 → (plainRu
 abbrev pub Midway : Type 0
 Midway = (s : Scene) (l : List ℕ) → Accepted s l → (before : List Call) (c : Call) (after : List Call) → calls l ≡ before ++ (c ∷ after)
     → NoCause (callTests (runCalls before s) (length before) (c ∷ []))
+
+-- ==== Two lists, one after the other
+
+-- Each call gets what the one before it left: calls put together are worked as the second on what the first left.
+abbrev pub Chained : Type 0
+Chained = (s : Scene) (a b : List Call) → runCalls (a ++ b) s ≡ runCalls b (runCalls a s)
+
+-- two lists put together into one, which is accepted exactly where it is not too long, the first is accepted, and so is the second in the scene that the first
+-- left; and then its scene is that of the second run
+pub record OneAfterOther (s : Scene) (l₁ l₂ : List ℕ) : Type 0 where
+  pub accepted : Accepted s (l₁ ++ l₂) ↔ ((length l₁ + length l₂ ≤ 8192) × Accepted s l₁ × Accepted (plainRun s l₁ .scene) l₂)
+  pub scene : Accepted s (l₁ ++ l₂) → plainRun s (l₁ ++ l₂) .scene ≡ plainRun (plainRun s l₁ .scene) l₂ .scene
+
+-- So it is of every two lists, where the first is of even length, so that no call is cut in two.
+abbrev pub ChainedLists : Type 0
+ChainedLists = (s : Scene) (l₁ l₂ : List ℕ) → length l₁ % 2 ≡ 0 → OneAfterOther s l₁ l₂
 
 -- ==== Still
 
@@ -120,6 +150,10 @@ pub record SameVelocities (a b : BodyState) : Type 0 where
 abbrev pub Stillness : Type 0
 Stillness = (s : Scene) (l : List ℕ) → Accepted s l
     → (plainRun s l .still ≡ true) ↔ ((n : ℕ) → n < s .«body_count» → SameVelocities (bodyAt s n) (bodyAt (plainRun s l .scene) n))
+
+-- With no bodies an accepted run is still.
+abbrev pub NoBodies : Type 0
+NoBodies = (s : Scene) (l : List ℕ) → Accepted s l → s .«body_count» ≡ 0 → plainRun s l .still ≡ true
 
 pub record NoNaN (v : Vec3) : Type 0 where
   pub number-x : v .x ≢ nan
@@ -234,8 +268,19 @@ pub record LimitsNonNegative (start end : JointUnion) : Type 0 where
   pub upper : limitsOf start .limit-on ≡ true → NonNegative (limitsOf end .upper)
   pub swing : limitsOf start .cone-on ≡ true → NonNegative (limitsOf end .swing)
 
--- At the end of every accepted list, each joint of which a solve stands in the list and whose rotation is not fixed has its enabled limits' impulses zero or
--- positive, never a NaN. (The switches themselves stay, by Changes.)
+-- After every solve of an accepted list: wherever the list is cut after a solve, that solve's joint, if its rotation is not fixed, has its enabled limits'
+-- impulses zero or positive, never a NaN. (The switches themselves stay, by Changes.)
+abbrev pub LimitsAfterSolve : Type 0
+LimitsAfterSolve = (s : Scene) (l : List ℕ) → Accepted s l → (before : List Call) (c : Call) (after : List Call) → calls l ≡ before ++ (c ∷ after)
+    → c .stage ≢ 0 → jointAt s (c .slot) .base .«fixed_rotation» ≡ false
+    → LimitsNonNegative (jointAt s (c .slot) .«union_») (jointAt (runCalls (before ++ (c ∷ [])) s) (c .slot) .«union_»)
+
+-- And from its first solve on, wherever the list is cut: so have all joints that the calls worked so far solve.
+abbrev pub LimitsMidway : Type 0
+LimitsMidway = (s : Scene) (before : List Call) (j : ℕ) → Solved j before → jointAt s j .base .«fixed_rotation» ≡ false
+    → LimitsNonNegative (jointAt s j .«union_») (jointAt (runCalls before s) j .«union_»)
+
+-- And so at the end: each joint of which a solve stands in the list.
 abbrev pub Limits : Type 0
 Limits = (s : Scene) (l : List ℕ) → Accepted s l → (j : ℕ) → Solved j (calls l) → jointAt s j .base .«fixed_rotation» ≡ false
     → LimitsNonNegative (jointAt s j .«union_») (jointAt (plainRun s l .scene) j .«union_»)

@@ -11,6 +11,7 @@ pub mod Framed
 pub mod Order
 pub mod Accepted
 pub mod Counted
+pub mod TwoLists
 pub mod Changes
 pub mod Still
 pub mod Settled

@@ -1,9 +1,9 @@
 -- The claims of Claims.antt, proved, each under its statement's name in small letters. Assumes nothing.
 use mathlib.Core.Path.{_≡_, refl, sym, ap, _∙_, subst}
-use mathlib.Core.Logic.{inl, inr, _≢_, _↔_}
+use mathlib.Core.Logic.{inl, inr, ⊎-elim, _≢_, _↔_}
 use mathlib.Core.Bool.{Bool, true, false}
-use mathlib.Core.List.{List, []}
-use Prim.Native.Nat.{ℕ, _<_}
+use mathlib.Core.List.{List, [], _∷_, _++_}
+use Prim.Native.Nat.{ℕ, _+_, _≤_, _<_}
 use native.Mathlib.Omega.{arith}
 use lib.Dec.{eqb}
 use lib.Ieee.{Float}
@@ -18,10 +18,15 @@ use Rattle.constraint.specs.Answer.{jointSim}
 use Rattle.joint.specs.Stage.{stageJoint}
 use Rattle.scene.specs.declared.Scene.{Scene}
 use Rattle.scene.specs.Scene.{jointAt, bodyAt}
-use Rattle.scene.specs.Calls.{calls}
+use Rattle.scene.specs.Calls.{Call, calls, Solved}
 use Rattle.scene.specs.Plain.{verdict, Accepted, runCalls, isStill, plainRun}
-use Rattle.scene.specs.Claims.{Numbers, Acceptance, Refusal, Midway, Stillness, SameVelocities, NoNaN, EmptyList, Order, OrderCounted, Changes, ChangesMidway, OnlyChanges, Cause6, Cause7, tests, settingsOf, limitsOf, LimitsNonNegative, Limits, Differ, Agree}
-use Rattle.scene.specs.Accepted.{verdict-answers, answers-numbers, answers-none, by-verdict, run-accepted, run-verdict, accepted-calls, no-cause-kept, no-cause-at}
+use Rattle.scene.specs.Claims.{Cause6, Cause7, callTests, tests, Numbers, Acceptance, AcceptedIsZero, InRange, Range, Refusal, Midway}
+use Rattle.scene.specs.Claims.{Chained, ChainedLists, Stillness, SameVelocities, NoBodies, NoNaN, EmptyList, Order, OrderCounted}
+use Rattle.scene.specs.Claims.{Changes, ChangesMidway, OnlyChanges, settingsOf, limitsOf, LimitsNonNegative}
+use Rattle.scene.specs.Claims.{LimitsAfterSolve, LimitsMidway, Limits, Differ, Agree}
+use Rattle.scene.specs.Accepted.{verdict-answers, answers-numbers, answers-none, OfTests, answers-hold}
+use Rattle.scene.specs.Accepted.{by-verdict, run-accepted, run-verdict, accepted-calls, no-cause-kept, no-cause-at}
+use Rattle.scene.specs.TwoLists.{runs-chained, one-after-other}
 use Rattle.scene.specs.Stages.{no-limits, stage-keeps, warm-keeps, solve-limits}
 use Rattle.scene.specs.Settled.{settled}
 use Rattle.scene.specs.Framed.{unread, framed, fixed-at}
@@ -45,12 +50,62 @@ acceptance s l =
     let given = answers-none (tests s l) (verdict s l) (verdict-answers s l) in
     ((λ e. given .0 (sym (same .0) ∙ e), λ h. same .0 ∙ given .1 h), λ e. same .1 ∙ verdict-answers s l .none (sym (same .0) ∙ e) .1)
 
+pub accepted-is-zero : AcceptedIsZero
+accepted-is-zero s l = let same = run-verdict s l .0 in (λ e. same ∙ e, λ e. sym same ∙ e)
+
+-- a test that no call makes, and one that a call makes
+early-range : (m n : ℕ) → 6 ≤ n → n ≤ 7 → InRange m n 0
+early-range m n low high = record { number-bound = high; place-zero = λ h. refl; place-bound = λ ne h. absurd (omega (arith, low, h)) }
+
+call-range : (m n p : ℕ) → 1 ≤ n → n ≤ 5 → p < m → InRange m n p
+call-range m n p low high below =
+    record {
+      number-bound = omega (arith, high);
+      place-zero = ⊎-elim (λ e. absurd (omega (arith, low, e))) (λ h. absurd (omega (arith, high, h)));
+      place-bound = λ ne h. below;
+    }
+
+calls-range : (s : Scene) (p m : ℕ) (l : List Call) → p + length l ≡ m → OfTests (InRange m) (callTests s p l)
+calls-range s p m [] e = tt
+calls-range s p m (c ∷ l) e =
+    let below : p < m = omega (arith, e) in
+    let at : (n : ℕ) → 1 ≤ n → n ≤ 5 → InRange m n p = λ n low high. call-range m n p low high below in (
+      at 4 (omega arith) (omega arith),
+      (
+        at 5 (omega arith) (omega arith),
+        (
+          at 1 (omega arith) (omega arith),
+          (
+            at 2 (omega arith) (omega arith),
+            (at 3 (omega arith) (omega arith), calls-range s (p + 1) m l (omega (arith, e))),
+          ),
+        ),
+      ),
+    )
+
+pub range : Range
+range s l =
+    let same = run-verdict s l in
+    let m = length (calls l) in
+    let zeros : InRange m 0 0 = record { number-bound = omega arith; place-zero = λ h. refl; place-bound = λ ne h. absurd (ne refl) } in
+    rw (same .0, same .1)
+    (answers-hold (InRange m) (tests s l) (verdict s l) (verdict-answers s l) zeros
+    (early-range m 6 (omega arith) (omega arith), (early-range m 7 (omega arith) (omega arith), calls-range s 0 m (calls l) (omega arith))))
+
 pub refusal : Refusal
 refusal s l = by-verdict s l (λ r. r .number ≢ 0 → (r .still ≡ false) × (r .scene ≡ s)) (λ e ne. absurd (ne refl)) (λ n ne. (refl, refl))
 
 pub midway : Midway
 midway s l e before c after same =
     no-cause-kept s (runCalls before s) (framed s before) (length before) c (no-cause-at s 0 (length before) (calls l) before c after same (accepted-calls s l e))
+
+-- ---- two lists
+
+pub chained : Chained
+chained = runs-chained
+
+pub chained-lists : ChainedLists
+chained-lists = one-after-other
 
 -- ---- still
 
@@ -63,6 +118,9 @@ stillness s l e =
     let r = still-is s l e in
     let given = same-below (s .«body_count») (s .bodies) (plainRun s l .scene .bodies) in
     (λ h. given .0 (sym r ∙ h), λ h. r ∙ given .1 h)
+
+pub no-bodies : NoBodies
+no-bodies s l e none = stillness s l e .1 (λ n h. absurd (omega (arith, none, h)))
 
 empty-7 : Cause7 [] → ⊥
 empty-7 (inl e) = omega arith
@@ -126,13 +184,22 @@ settled-stays u base h invH a b stage p = by (eqb stage 0) refl
     by true e = rw (warm-keeps base h invH a b stage u (eqb-true stage 0 e)) p
     by false e = settles u base h invH a b stage (eqb-false stage 0 e)
 
+pub limits-midway : LimitsMidway
+limits-midway s before j solved free =
+    let t = runCalls before s in
+    let same = fixed-at s t (framed s before) j in
+    limits-from (jointAt t j .«union_») (jointAt t j .«union_») (jointAt s j .«union_») (same .settings)
+    (settled Settled (λ f. no-limits Other Other refl refl) settles settled-stays before s j solved (ap (λ x. x .«fixed_rotation») (same .base) ∙ free))
+
+solved-last : (before : List Call) (c : Call) → c .stage ≢ 0 → Solved (c .slot) (before ++ (c ∷ []))
+solved-last [] c ne = inl (refl, ne)
+solved-last (d ∷ l) c ne = inr (solved-last l c ne)
+
+pub limits-after-solve : LimitsAfterSolve
+limits-after-solve s l accepted before c after same ne free = limits-midway s (before ++ (c ∷ [])) (c .slot) (solved-last before c ne) free
+
 pub limits : Limits
-limits s l accepted j solved free =
-    let t = runCalls (calls l) s in
-    let same = fixed-at s t (framed s (calls l)) j in
-    rw (run-accepted s l accepted)
-    (limits-from (jointAt t j .«union_») (jointAt t j .«union_») (jointAt s j .«union_») (same .settings)
-    (settled Settled (λ f. no-limits Other Other refl refl) settles settled-stays (calls l) s j solved (ap (λ x. x .«fixed_rotation») (same .base) ∙ free)))
+limits s l accepted j solved free = rw (run-accepted s l accepted) (limits-midway s (calls l) j solved free)
 
 -- ---- the examples
 
