@@ -14,10 +14,11 @@ use Rattle.records.specs.declared.joint.JointSim.{JointSim}
 use Rattle.records.specs.declared.joint.JointUnion.{JointUnion}
 use Rattle.records.specs.declared.joint.JointUnion.the-variants.{Other}
 use Rattle.scene.specs.declared.Scene.{Scene}
-use Rattle.records.specs.Body.{isDynamic}
+use Rattle.records.specs.Body.{isDynamic, withVelocities}
 use Rattle.constraint.specs.declared.velocity.Velocities.{Velocities}
 use Rattle.joint.specs.Index.{indexA, indexB}
 use Rattle.records.specs.Joint.{caseOf}
+use Rattle.joint.specs.Stage.{stageJoint}
 use Rattle.joint.specs.Store.{statePair, storePair}
 use Rattle.scene.specs.Scene.{jointAt, stateAt, NamesBody}
 use Rattle.scene.specs.Plain.{storeBoth, plainRun}
@@ -52,6 +53,10 @@ Numbers = (call : Call) (joint : JointSim) (states : List BodyState) (number : �
 abbrev pub Acceptance : Type 0
 Acceptance = (call : Call) (joint : JointSim) (states : List BodyState)
     → ((directCall call joint states .answer .number ≡ 0) ↔ NoCause (tests call joint states)) × (directCall call joint states .answer .place ≡ 0)
+
+-- No number but 0 to 3 is answered.
+abbrev pub Range : Type 0
+Range = (call : Call) (joint : JointSim) (states : List BodyState) → directCall call joint states .answer .number ≤ 3
 
 -- A refused call leaves joint and states as they were.
 abbrev pub Refusal : Type 0
@@ -92,6 +97,16 @@ PairStored = (states : List BodyState) (union : JointUnion) (v : Velocities) →
     let b = indexB union in
     let after = storeBoth states union v in
     statePair (stateAt after a) (stateAt after b) ≡ storePair (stateAt states a) (stateAt states b) (oneBody a b) v
+
+-- 'So if both indices name one dynamic body, B's velocities remain': where an accepted call's two indices name one dynamic state, it has at exit the velocities
+-- that the stage gives B, where that one state was read both for A and for B, and is otherwise as it was. (Accepted, the index is below the number of states.)
+abbrev pub OneBodyTwice : Type 0
+OneBodyTwice = (call : Call) (joint : JointSim) (states : List BodyState) (n : ℕ)
+    → indexA (joint .«union_») ≡ pos n → indexB (joint .«union_») ≡ pos n → isDynamic (stateAt states (pos n)) ≡ true
+    → directCall call joint states .answer .number ≡ 0
+    → let x = stateAt states (pos n) in
+    let v = stageJoint (joint .«union_») (joint .base) (call .h) (call .«inv_h») x x (call .stage) .velocities in
+    stateAt (directCall call joint states .states) (pos n) ≡ withVelocities x (v .«v_b») (v .«w_b»)
 
 -- ==== A list of one call
 

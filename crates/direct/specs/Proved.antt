@@ -1,18 +1,23 @@
 -- The claims of Claims.antt, proved, each under its statement's name in small letters. Assumes nothing.
-use mathlib.Core.Path.{_≡_, refl, sym, ap, _∙_}
+use mathlib.Core.Path.{_≡_, refl, sym, ap, ap₂, _∙_}
 use mathlib.Core.Logic.{inl, inr, ⊎-elim, _≢_}
 use mathlib.Core.Bool.{Bool, true, false, not, cond}
 use mathlib.Core.List.{List}
-use Prim.Native.Nat.{ℕ}
+use Prim.Native.Nat.{ℕ, _≤_}
 use native.Mathlib.Omega.{arith}
 use lib.Dec.{eqb}
+use lib.IntN.{pos}
 use lib.ListN.{length}
 use borrow.Author.Tests.{eqb-true, eqb-false, not-true, not-false}
+use Rattle.math_functions.specs.declared.types.Vec3.{Vec3}
 use Rattle.records.specs.declared.body.BodyState.{BodyState}
 use Rattle.records.specs.declared.joint.JointSim.{JointSim}
 use Rattle.records.specs.declared.joint.JointUnion.{JointUnion}
 use Rattle.records.specs.declared.joint.JointUnion.the-variants.{Revolute, Spherical, Weld, Other}
+use Rattle.records.specs.Body.{isDynamic, withVelocities, storeVelocities}
 use Rattle.constraint.specs.Answer.{jointSim}
+use Rattle.joint.specs.declared.stage.Staged.{Staged}
+use Rattle.joint.specs.Stage.{stageJoint}
 use Rattle.joint.specs.Index.{indexA, indexB, badIndex}
 use Rattle.records.specs.Joint.{caseOf}
 use Rattle.scene.specs.Scene.{stateAt, store}
@@ -22,12 +27,13 @@ use Rattle.scene.specs.Stages.{stage-keeps, warm-keeps, solve-limits}
 use Rattle.scene.specs.Stores.{store-long, both-rest}
 use Rattle.scene.specs.Framed.{only-impulses}
 use Rattle.scene.specs.Changes.{not-stored, only-velocities}
-use Rattle.scene.specs.Accepted.{Says, says-of, says-other, says-index, Answers, answers-nil, answers-test, answers-numbers, answers-none}
+use Rattle.scene.specs.Accepted.{Says, says-of, says-other, says-index, Answers, answers-nil, answers-test, answers-numbers, answers-none, answers-hold}
 use Rattle.direct.specs.declared.call.Call.{Call}
-use Rattle.direct.specs.Direct.{isOfKind, cause, refused, done, stageAt, warmStart, solve}
-use Rattle.direct.specs.Claims.{Cause1, tests, Numbers, Acceptance, Refusal, OnlyChanges, Changes, WarmStartKeeps, PairStored, OneCall, Limits}
+use Rattle.direct.specs.Direct.{isOfKind, cause, refused, done, stageAt, directCall, warmStart, solve}
+use Rattle.direct.specs.Claims.{Cause1, tests, Numbers, Acceptance, Range, Refusal, OnlyChanges, Changes, WarmStartKeeps}
+use Rattle.direct.specs.Claims.{PairStored, OneBodyTwice, OneCall, Limits}
 use Rattle.direct.specs.Outcomes.{its-cause, by-outcome, answer-is}
-use Rattle.direct.specs.Stored.{pair-at}
+use Rattle.direct.specs.Stored.{at-b, pair-at}
 use Rattle.direct.specs.OneCall.{same-end}
 
 -- ---- numbers
@@ -76,6 +82,13 @@ acceptance call joint states =
     let given = answers-none (tests call joint states) (verdictOf (its-cause call joint states) 0) (answers call joint states) in
     ((λ e. given .0 (sym same ∙ e), λ h. same ∙ given .1 h), ap (λ a. a .place) is)
 
+pub range : Range
+range call joint states =
+    let same = ap (λ a. a .number) (answer-is call joint states) in
+    rw same
+    (answers-hold (λ n p. n ≤ 3) (tests call joint states) (verdictOf (its-cause call joint states) 0) (answers call joint states) (omega arith)
+    (omega arith, (omega arith, (omega arith, tt))))
+
 pub refusal : Refusal
 refusal call joint states =
     by-outcome call joint states (λ o. o .answer .number ≢ 0 → (o .joint ≡ joint) × (o .states ≡ states)) (λ e ne. absurd (ne refl)) (λ ne ne′. (refl, refl))
@@ -118,6 +131,50 @@ warm-start-keeps kind joint states =
 
 pub pair-stored : PairStored
 pair-stored states u v = pair-at states (indexA u) (indexB u) v
+
+stored-dynamic : (x : BodyState) (v w : Vec3) → isDynamic x ≡ true → storeVelocities x v w ≡ withVelocities x v w
+unfolding storeVelocities
+stored-dynamic x v w d = rw d
+
+-- both indices name the state `n`
+module _ (call : Call) (joint : JointSim) (states : List BodyState) (n : ℕ)
+    (is-a : indexA (joint .«union_») ≡ pos n) (is-b : indexB (joint .«union_») ≡ pos n) where
+  abbrev u : JointUnion
+  u = joint .«union_»
+
+  abbrev x : BodyState
+  x = stateAt states (pos n)
+
+  abbrev twice : Staged
+  twice = stageJoint u (joint .base) (call .h) (call .«inv_h») x x (call .stage)
+
+  -- the state with the velocities that a stage gives B
+  abbrev ofB : Staged → BodyState
+  ofB r = withVelocities x (r .velocities .«v_b») (r .velocities .«w_b»)
+
+  -- the two states that are read are one
+  same-read : stageAt call joint states ≡ twice
+  same-read =
+      ap₂ (λ i j. stageJoint u (joint .base) (call .h) (call .«inv_h») (stateAt states i) (stateAt states j) (call .stage)) is-a is-b
+
+  b-remains : isDynamic x ≡ true → directCall call joint states .answer .number ≡ 0
+      → stateAt (storeBoth states u (stageAt call joint states .velocities)) (pos n) ≡ ofB twice
+  b-remains dynamic e =
+      let none = acceptance call joint states .0 .0 e in
+      let v = stageAt call joint states .velocities in
+      ap (stateAt (storeBoth states u v)) (sym is-b)
+      ∙ at-b states (indexA u) (indexB u) v (none .1 .0) (none .1 .1 .0)
+      ∙ ap (λ i. storeVelocities (stateAt states i) (v .«v_b») (v .«w_b»)) is-b
+      ∙ stored-dynamic x (v .«v_b») (v .«w_b») dynamic
+      ∙ ap ofB same-read
+
+  b-left : isDynamic x ≡ true → directCall call joint states .answer .number ≡ 0 → stateAt (directCall call joint states .states) (pos n) ≡ ofB twice
+  b-left dynamic e =
+      by-outcome call joint states (λ o. o .answer .number ≡ 0 → stateAt (o .states) (pos n) ≡ ofB twice)
+      (λ z k. b-remains dynamic e) (λ ne k. absurd (ne k)) e
+
+pub one-body-twice : OneBodyTwice
+one-body-twice = b-left
 
 -- ---- a list of one call
 

@@ -69,7 +69,8 @@ module _ (s : List BodyState) (i j : ℤ) (v : Velocities) (h : ¬ (OutOf (lengt
   abbrev both : List BodyState
   both = store one j (v .«v_b») (v .«w_b»)
 
-  at-b : stateAt both j ≡ storeVelocities (stateAt s j) (v .«v_b») (v .«w_b»)
+  -- at B there is what was stored for B, one body or two
+  pub at-b : stateAt both j ≡ storeVelocities (stateAt s j) (v .«v_b») (v .«w_b»)
   at-b =
       stored-at one j (v .«v_b») (v .«w_b») (rw (store-long s i (v .«v_a») (v .«w_a»)) g)
       ∙ sym (read-first s i j (v .«v_a») (v .«w_a») (v .«v_b») (v .«w_b»))
