@@ -186,7 +186,7 @@ pub record Shown : Type 0 where
   pub code-early : stopOf (plainRun (door (neg quarter) quarter zero (neg one)) solve) ≡ 1
   -- 'code 0 means that no stop is reached': a quarter of a radian beyond it, and swinging back
   pub code-beyond : stopOf (plainRun (door quarter one zero one) solve) ≡ 0
-  -- 'during the list the limit never pulled': a stored push of -1, and the door at rest
+  -- 'during the list the limit never pulled': a stored push of -1, and the door at rest. The warm start comes before the solve
   pub pulls-midway : turnOf (plainRun (door (neg quarter) quarter (neg one) zero) warm) ≡ neg one
   pub pushes-at-the-end : lower (plainRun (door (neg quarter) quarter (neg one) zero) warmThenSolve) ≡ zero
   -- 'where the push is zero, the part moves as it should'
@@ -198,10 +198,13 @@ pub record Shown : Type 0 where
   -- 'a list is worked up to its mistake': no joint stands in slot 5
   pub refused : (plainRun (chain 0x1000) (0 ∷ 2 ∷ 5 ∷ 2 ∷ []) .number ≡ 4) × (plainRun (chain 0x1000) (0 ∷ 2 ∷ 5 ∷ 2 ∷ []) .place ≡ 1)
   pub not-begun : xOf (plainRun (chain 0x1000) (0 ∷ 2 ∷ 5 ∷ 2 ∷ [])) 0 ≡ four
-  -- 'every part that a listed joint names moves', 'nothing happened': blocks that are not dynamic keep their speeds, and the push is stored
+  -- 'where it answers 0, every speed is a number': a block whose speed is no number hands that on to the block that it is welded to
+  pub nan-accepted : plainRun (blocks (moving nan) (moving two)) solve .number ≡ 0
+  pub nan-speeds : (xOf (plainRun (blocks (moving nan) (moving two)) solve) 0 ≡ nan) × (xOf (plainRun (blocks (moving nan) (moving two)) solve) 1 ≡ nan)
+  -- 'every part that a listed joint names moves', 'nothing happened': blocks that are not dynamic keep their speeds, and the impulse is stored
   pub still-pushed : plainRun (blocks (kept zero) (kept two)) solve .still ≡ true
   pub kept-speeds : (xOf (plainRun (blocks (kept zero) (kept two)) solve) 0 ≡ zero) × (xOf (plainRun (blocks (kept zero) (kept two)) solve) 1 ≡ two)
-  pub stored-push : impulseX (plainRun (blocks (kept zero) (kept two)) solve) ≡ neg one
+  pub stored-impulse : impulseX (plainRun (blocks (kept zero) (kept two)) solve) ≡ neg one
   -- 'a part that no listed joint names stands still'
   pub flies-on : xOf (plainRun (chain 0x1000) solve) 2 ≡ eight
   -- 'still means that nothing moves', 'a list that changes nothing was refused'
@@ -231,9 +234,11 @@ shown =
       other-order = (refl, refl);
       refused = (refl, refl);
       not-begun = refl;
+      nan-accepted = refl;
+      nan-speeds = (refl, refl);
       still-pushed = refl;
       kept-speeds = (refl, refl);
-      stored-push = refl;
+      stored-impulse = refl;
       flies-on = refl;
       still-flying = (refl, refl);
       empty-not-still = refl;
