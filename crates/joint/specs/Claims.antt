@@ -33,7 +33,7 @@ pub record CodeZero (joint : JointSim) : Type 0 where
   pub weld : (w : WeldJoint) → joint .«union_» ≡ Weld w → stopCode joint .code ≡ 0
   pub refused : joint .«union_» ≡ Other → stopCode joint .code ≡ 0
 
--- Where no limit is asked about the code is 0.
+-- A joint whose rotation is fixed, a weld and the empty case have code 0.
 abbrev pub NoStops : Type 0
 NoStops = (joint : JointSim) → CodeZero joint
 

@@ -120,7 +120,7 @@ Midway = (s : Scene) (l : List ℕ) → Accepted s l → (before : List Call) (c
 
 -- ==== Two lists, one after the other
 
--- Each call gets what the one before it left: calls put together are worked as the second on what the first left.
+-- 'Each call gets what the one before it left': of calls put together the second part is worked on what the first part left.
 abbrev pub Chained : Type 0
 Chained = (s : Scene) (a b : List Call) → runCalls (a ++ b) s ≡ runCalls b (runCalls a s)
 
@@ -275,12 +275,12 @@ LimitsAfterSolve = (s : Scene) (l : List ℕ) → Accepted s l → (before : Lis
     → c .stage ≢ 0 → jointAt s (c .slot) .base .«fixed_rotation» ≡ false
     → LimitsNonNegative (jointAt s (c .slot) .«union_») (jointAt (runCalls (before ++ (c ∷ [])) s) (c .slot) .«union_»)
 
--- And from its first solve on, wherever the list is cut: so have all joints that the calls worked so far solve.
+-- And from then on: after any calls each joint of which a solve stands among them, and whose rotation is not fixed, has them so.
 abbrev pub LimitsMidway : Type 0
 LimitsMidway = (s : Scene) (before : List Call) (j : ℕ) → Solved j before → jointAt s j .base .«fixed_rotation» ≡ false
     → LimitsNonNegative (jointAt s j .«union_») (jointAt (runCalls before s) j .«union_»)
 
--- And so at the end: each joint of which a solve stands in the list.
+-- And so at the end of every accepted list: each joint of which a solve stands in it.
 abbrev pub Limits : Type 0
 Limits = (s : Scene) (l : List ℕ) → Accepted s l → (j : ℕ) → Solved j (calls l) → jointAt s j .base .«fixed_rotation» ≡ false
     → LimitsNonNegative (jointAt s j .«union_») (jointAt (plainRun s l .scene) j .«union_»)
