@@ -32,6 +32,11 @@ class Edit:
     const: str = ""
     note: str = ""
 
+    @property
+    def change(self):
+        """what becomes of the text: two kinds of edit may make the same change"""
+        return self.path, self.start, self.end, self.new
+
 
 class Sites:
     """the edits of one function or one constant: (kind, site) -> edits"""
@@ -311,8 +316,8 @@ class Pool:
         while self.kinds:
             kind = self.random.choices(list(self.kinds), [WEIGHTS.get(k, 1.0) for k in self.kinds])[0]
             edit = self.draw_of(kind)
-            if edit and (edit.path, edit.start, edit.end, edit.new) not in self.drawn:
-                self.drawn.add((edit.path, edit.start, edit.end, edit.new))
+            if edit.change not in self.drawn:
+                self.drawn.add(edit.change)
                 return edit
         return None
 
