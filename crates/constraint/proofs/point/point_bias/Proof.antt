@@ -4,7 +4,14 @@ use Rattle.constraint.proofs.point.point_bias.Tie as tie
 
 returns : tie.Need-returns
 unfolding pointBias
-returns c = rw (← (c .before .before .before .before .sub .ensures), ← (c .before .before .before .sub2 .ensures), ← (c .before .before .add .ensures), ← (c .before .add2 .ensures), ← (c .soft-bias3 .ensures), c .before .before .before .before .before .if1 .taken)
+returns c = rw (
+  ← (c .before .before .before .before .sub .ensures),
+  ← (c .before .before .before .sub2 .ensures),
+  ← (c .before .before .add .ensures),
+  ← (c .before .add2 .ensures),
+  ← (c .soft-bias3 .ensures),
+  c .before .before .before .before .before .if1 .taken,
+)
 
 returns-2 : tie.Need-returns-2
 unfolding pointBias

@@ -4,4 +4,5 @@ use Rattle.constraint.proofs.soft.soft_impulse3_products.Tie as tie
 
 pub soft-impulse3-products-spec : {M : Type 1} → statement M
 unfolding softImpulse3Products
-soft-impulse3-products-spec = tie.close (tie.spec (λ c κs. tt) (λ c κs. tt) (λ c κs. tt) (λ c. rw (← (c .before .before .mul-sv .ensures), ← (c .before .mul-sv2 .ensures), ← (c .sub .ensures))))
+soft-impulse3-products-spec = tie.close (tie.spec (λ c κs. tt) (λ c κs. tt) (λ c κs. tt)
+    (λ c. rw (← (c .before .before .mul-sv .ensures), ← (c .before .mul-sv2 .ensures), ← (c .sub .ensures))))

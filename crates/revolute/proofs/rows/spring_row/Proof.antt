@@ -8,7 +8,15 @@ returns c = rw (c .if1 .taken)
 
 returns-2 : tie.Need-returns-2
 unfolding springRow
-returns-2 c = rw (← (c .before .before .before .before .before .get-twist-angle .ensures), ← (c .before .before .before .before .soft-bias .ensures), ← (c .before .before .before .sub .ensures), ← (c .before .before .dot .ensures), ← (c .before .soft-impulse .ensures), ← (c .apply-axial .ensures), c .before .before .before .before .before .before .if1 .left)
+returns-2 c = rw (
+  ← (c .before .before .before .before .before .get-twist-angle .ensures),
+  ← (c .before .before .before .before .soft-bias .ensures),
+  ← (c .before .before .before .sub .ensures),
+  ← (c .before .before .dot .ensures),
+  ← (c .before .soft-impulse .ensures),
+  ← (c .apply-axial .ensures),
+  c .before .before .before .before .before .before .if1 .left,
+)
 
 pub spring-row-spec : {M : Type 1} → statement M
 spring-row-spec = tie.close (tie.spec returns (λ c κs. tt) (λ c κs. tt) (λ c κs. tt) (λ c κs. tt) (λ c κs. tt) (λ c κs. tt) returns-2)

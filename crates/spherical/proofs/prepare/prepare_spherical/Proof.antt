@@ -2,6 +2,25 @@ use Rattle.spherical.specs.Spherical.{prepareSpherical}
 use Rattle.spherical.proofs.prepare.prepare_spherical.Statement.{statement}
 use Rattle.spherical.proofs.prepare.prepare_spherical.Tie as tie
 
-pub prepare-spherical-spec : {M : Type 1} → statement M
+returns : tie.Need-returns
 unfolding prepareSpherical
-prepare-spherical-spec = tie.close (tie.spec (λ c κs. tt) (λ c κs. tt) (λ c κs. tt) (λ c κs. tt) (λ c κs. tt) (λ c κs. tt) (λ c κs. tt) (λ c κs. tt) (λ c κs. tt) (λ c κs. tt) (λ c κs. tt) (λ c κs. tt) (λ c κs. tt) (λ c κs. tt) (λ c. rw (← (c .before .before .before .before .before .before .before .before .before .before .before .before .before .before .before .prepare-frame .ensures), ← (c .before .before .before .before .before .before .before .before .before .before .before .before .before .before .prepare-frame2 .ensures), ← (c .before .before .before .before .before .before .before .before .before .before .before .before .before .prepare-base .ensures), ← (c .before .before .before .before .before .before .before .before .before .before .before .before .add-mm .ensures), ← (c .before .before .before .before .before .before .before .before .before .before .before .rotate-vector .ensures), ← (c .before .before .before .before .before .before .before .before .before .before .rotate-vector2 .ensures), ← (c .before .before .before .before .before .before .before .before .before .prepare-swing .ensures), ← (c .before .before .before .before .before .before .before .before .prepare-twist .ensures), ← (c .before .before .before .before .before .awake-index .ensures), ← (c .before .before .before .before .awake-index2 .ensures), ← (c .before .before .before .sub-pos .ensures), ← (c .before .before .prepare-rotation-mass .ensures), ← (c .before .make-soft .ensures), ← (c .keep-impulses .ensures))))
+returns c = rw (
+  ← (c .before .before .before .before .before .before .before .before .before .before .before .before .before .before .before .prepare-frame .ensures),
+  ← (c .before .before .before .before .before .before .before .before .before .before .before .before .before .before .prepare-frame2 .ensures),
+  ← (c .before .before .before .before .before .before .before .before .before .before .before .before .before .prepare-base .ensures),
+  ← (c .before .before .before .before .before .before .before .before .before .before .before .before .add-mm .ensures),
+  ← (c .before .before .before .before .before .before .before .before .before .before .before .rotate-vector .ensures),
+  ← (c .before .before .before .before .before .before .before .before .before .before .rotate-vector2 .ensures),
+  ← (c .before .before .before .before .before .before .before .before .before .prepare-swing .ensures),
+  ← (c .before .before .before .before .before .before .before .before .prepare-twist .ensures),
+  ← (c .before .before .before .before .before .awake-index .ensures),
+  ← (c .before .before .before .before .awake-index2 .ensures),
+  ← (c .before .before .before .sub-pos .ensures),
+  ← (c .before .before .prepare-rotation-mass .ensures),
+  ← (c .before .make-soft .ensures),
+  ← (c .keep-impulses .ensures),
+)
+
+pub prepare-spherical-spec : {M : Type 1} → statement M
+prepare-spherical-spec = tie.close (tie.spec (λ c κs. tt) (λ c κs. tt) (λ c κs. tt) (λ c κs. tt) (λ c κs. tt) (λ c κs. tt) (λ c κs. tt) (λ c κs. tt)
+    (λ c κs. tt) (λ c κs. tt) (λ c κs. tt) (λ c κs. tt) (λ c κs. tt) (λ c κs. tt) returns)
