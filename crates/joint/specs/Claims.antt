@@ -1,16 +1,19 @@
--- What holds of the stop code of every joint, in document 01's words. Statements only: each is proved in proofs/Stops.antt, under the same name in small
--- letters. Assumes nothing.
+-- What holds of the stop code of every joint, and of its prepare, in document 01's words. Statements only: each is proved in proofs/Stops.antt or
+-- proofs/Prepares.antt, under the same name in small letters. Assumes nothing.
 use mathlib.Core.Path.{_≡_}
 use mathlib.Core.Logic.{_↔_}
 use mathlib.Core.Bool.{Bool, true, false}
 use Prim.Native.Nat.{ℕ, _+_, _*_, _≤_}
 use lib.Ieee.{Float, nan}
 use Rattle.math_functions.specs.Float.{lt, gt, eq, zero}
+use Rattle.solver.specs.declared.StepContext.{StepContext}
+use Rattle.records.specs.declared.body.BodyRecord.{BodyRecord}
 use Rattle.records.specs.declared.joint.JointSim.{JointSim}
 use Rattle.records.specs.declared.joint.JointUnion.the-variants.{Revolute, Spherical, Weld, Other}
 use Rattle.records.specs.declared.joint.RevoluteJoint.{RevoluteJoint}
 use Rattle.records.specs.declared.joint.SphericalJoint.{SphericalJoint}
 use Rattle.records.specs.declared.joint.WeldJoint.{WeldJoint}
+use Rattle.joint.specs.Prepare.{prepareJoint}
 use Rattle.joint.specs.StopCode.{stopCode}
 
 -- ==== Number and place
@@ -66,3 +69,16 @@ RevoluteStops = (joint : JointSim) (r : RevoluteJoint) → joint .«union_» ≡
 abbrev pub SphericalStops : Type 0
 SphericalStops = (joint : JointSim) (r : SphericalJoint) → joint .«union_» ≡ Spherical r → joint .base .«fixed_rotation» ≡ false
     → Bits (r .«enable_twist_limit») (r .«lower_twist_impulse») (r .«upper_twist_impulse») (r .«enable_cone_limit») (r .«swing_impulse») (stopCode joint .code)
+
+-- ==== Prepare
+
+-- 'prepare refuses only with 1, place 0'
+pub record PrepareAnswer (joint : JointSim) (context : StepContext) (bodyA bodyB : BodyRecord) : Type 0 where
+  pub refused : (prepareJoint joint context bodyA bodyB .number ≡ 1) ↔ (joint .«union_» ≡ Other)
+  pub number-bound : prepareJoint joint context bodyA bodyB .number ≤ 1
+  pub place-zero : prepareJoint joint context bodyA bodyB .place ≡ 0
+  pub unaltered : joint .«union_» ≡ Other → prepareJoint joint context bodyA bodyB .joint ≡ joint
+
+-- The number is 1 exactly for the empty case, and else 0. The place is always 0, and what is refused comes back as it was.
+abbrev pub PrepareNumber : Type 0
+PrepareNumber = (joint : JointSim) (context : StepContext) (bodyA bodyB : BodyRecord) → PrepareAnswer joint context bodyA bodyB
