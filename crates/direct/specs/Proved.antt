@@ -16,8 +16,7 @@ use Rattle.records.specs.declared.joint.JointUnion.{JointUnion}
 use Rattle.records.specs.declared.joint.JointUnion.the-variants.{Revolute, Spherical, Weld, Other}
 use Rattle.records.specs.Body.{isDynamic, withVelocities, storeVelocities}
 use Rattle.constraint.specs.Answer.{jointSim}
-use Rattle.joint.specs.declared.stage.Staged.{Staged}
-use Rattle.joint.specs.Stage.{stageJoint}
+use Rattle.joint.specs.Stage.{Staged, stageJoint}
 use Rattle.joint.specs.Index.{indexA, indexB, badIndex}
 use Rattle.records.specs.Joint.{caseOf}
 use Rattle.scene.specs.Scene.{stateAt, store}
