@@ -2,14 +2,16 @@
 // calls left of it.
 use bench_wall::sum::add_gate;
 use bench_wall::wall::wall;
+use lent_calls::Lent;
 use records::body::BodyState;
+use records::body::IDENTITY_BODY_STATE;
 use records::joint::JointSim;
 use solver::StepContext;
 
-// The joint, the states of the first three gates, and the wall's step context.
+// The joint, the states of the first three gates, which are lent, and the wall's step context.
 pub struct Gate {
     pub joint: JointSim,
-    pub states: [BodyState; 3],
+    pub states: [BodyState; 40],
     pub context: StepContext,
 }
 
@@ -17,8 +19,12 @@ fn joint_of_gate_1(joints: [JointSim; 32]) -> JointSim {
     joints[1]
 }
 
-fn first_states(bodies: [BodyState; 32]) -> [BodyState; 3] {
-    [bodies[0], bodies[1], bodies[2]]
+fn first_states(bodies: [BodyState; 32]) -> [BodyState; 40] {
+    let mut states = [IDENTITY_BODY_STATE; 40];
+    states[0] = bodies[0];
+    states[1] = bodies[1];
+    states[2] = bodies[2];
+    states
 }
 
 // 0 is the door's joint, 1 the hip's and 2 the strut's.
@@ -35,6 +41,7 @@ pub fn wall_gate(kind: u8) -> Gate {
 }
 
 // The joint with each of its two bodies.
-pub fn checksum(joint: JointSim, states: [BodyState; 3]) -> u32 {
-    add_gate(add_gate(0, joint, states[0]), joint, states[1])
+pub fn checksum(left: Lent) -> u32 {
+    let states = left.states;
+    add_gate(add_gate(0, left.joint, states[0]), left.joint, states[1])
 }

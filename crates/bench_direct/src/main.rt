@@ -1,16 +1,13 @@
-// The direct calls, a kind and a stage to a row: `bench_direct ROW REPEATS` prints the row's checksum; 0
-// repeats are one call. With fewer arguments each row is worked once, and its number and checksum are
-// printed.
+// The direct calls, a kind and a stage to a row: `bench_direct ROW REPEATS` prints the row's checksum.
+// With fewer arguments each row is worked once, and its number and checksum are printed.
 mod gate;
-mod once;
 mod rows;
 
 ghost use Prim.Native.Nat.{_<_};
 use bench_wall::arguments::argument;
 use bench_wall::rows::write_checksum;
 use bench_wall::rows::write_row;
-use once::one_call;
-use rows::many_calls;
+use rows::sum_calls;
 
 // The rows of the bench before these are those of the programs bench and bench_stages.
 const FIRST: u8 = 30;
@@ -30,10 +27,7 @@ fn kind_of(row: u8) -> u8 {
 fn work(row: u8, repeats: u64) -> u32
     requires { ⌜ repeats < 1000000000 ⌝ }
 {
-    if repeats == 0 {
-        return one_call(kind_of(row), row % 3);
-    }
-    many_calls(kind_of(row), row % 3, 4096 * repeats)
+    sum_calls(kind_of(row), row % 3, 4096 * repeats)
 }
 
 fn write_rows() {

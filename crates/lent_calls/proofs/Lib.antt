@@ -1,11 +1,6 @@
-pub mod Lies
+pub mod Data
 pub mod Lends
-pub mod Rows
-pub mod Locals
 pub mod Pieces
+pub mod Rows
 pub mod Counts
-pub mod WarmStart
-pub mod Solve
-pub mod Repeated
-pub mod RepeatWarmStart
-pub mod RepeatSolve
+pub mod Loop

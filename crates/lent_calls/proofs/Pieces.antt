@@ -1,57 +1,57 @@
--- Pieces of MIR that a warm start and a solve share, of the functions that lend a joint and states, once or again and again. Definitions only. Assumes nothing.
---     once, once-locals          the body of a function that lends once, and its locals after the parameters
---     repeats, repeat-locals     of one that does so again and again: `turn` is a turn of its loop, `more` the call in it, `rest` what stands after the loop
--- m is the local of the last parameter, and s that of the states. From m + 1 on stand the joint, the states, the count (of the states that are lent, or of the calls that
--- are made), in a loop its test, then the answer, the references to the joint, to the array and to its states, and the two that are returned. xs is what the callee is given.
-use mathlib.Core.List.{[], _∷_, List, _++_}
+-- The MIR of the functions, but for their parameters and the callee's operands. Definitions only. Assumes nothing.
+--     Types            the types of the locals. A walk takes them as a variable
+--     body, locals     the body, and the locals after the parameters
+--     turn, more       a turn of the loop, and what it does where there is a call to make
+--     gives            what stands after the loop
+-- p is the local of the last parameter, which says how often the callee f is called on xs. Behind it stand 1 the joint, 2 the states, 3 the count of those that
+-- are lent, 4 the answer, 5 how many calls are made, 6 the loop's test, the references to 7 the joint, 8 the array and 9 its states, and 10 and 11 what is returned.
+use mathlib.Core.List.{[], _∷_, List}
 use Prim.Native.Nat.{ℕ, _+_}
-use mir.Syntax.{Name, Local, Opd as Operand, Body, w64, tyInt, tyBool, place, unsigned, copy, int, rvOpd, op2, lt, add, local, valueLocal, memorySlot, skip, seq, assign, block, loop, cond, exit, call, return, addrOf, aggregate}
+use mir.Syntax.{Name, Ty, Local, Place, Opd as Operand, Body, w32, w64, erased, mut, tyInt, tyBool, tyRef, tyArray, place, unsigned, copy, int, rvOpd, op2, lt, add}
+use mir.Syntax.{local, valueLocal, memorySlot, skip, seq, assign, block, loop, cond, exit, call, return, addrOf, aggregate}
 use denote.Slice.{sliceTy}
-use Rattle.direct.proofs.Pieces.{refTo}
-use Rattle.lent_calls.proofs.Locals.{Locals, array}
 use Rattle.lent_calls.proofs.lent_count.Symbol.{name as #count}
 
--- the joint and the states are copied to the locals j and j + 1
-abbrev takes : ℕ → ℕ → Body → Body
-takes s j b = seq (assign (place j []) (rvOpd (copy (place 1 [])))) (seq (assign (place (j + 1) []) (rvOpd (copy (place s [])))) b)
+pub record Types : Type 0 where
+  pub result : Ty
+  pub joint : Ty
+  pub array : Ty
+  pub answer : Ty
+  -- what the references to the joint, to the array and to its first state name
+  pub joint-named : Ty
+  pub array-named : Ty
+  pub state-named : Ty
 
--- and lent, n states, for a call whose answer comes to the local r
-abbrev lends : ℕ → ℕ → Operand → Name → List Operand → Body → Body
-lends j r n f xs b = seq (assign (place (r + 1) []) (addrOf (place j [])))
-    (seq (assign (place (r + 2) []) (addrOf (place (j + 1) [])))
-    (seq (assign (place (r + 3) []) (aggregate (copy (place (r + 2) []) ∷ n ∷ [])))
-    (seq (call f xs (place r [])) b)))
+abbrev pub refTo : Ty → Ty
+refTo τ = tyRef erased mut τ
 
--- and returned, behind ys
-abbrev gives : ℕ → ℕ → List Operand → Body
-gives j r ys = seq (assign (place (r + 4) []) (rvOpd (copy (place j []))))
-    (seq (assign (place (r + 5) []) (rvOpd (copy (place (j + 1) []))))
-    (seq (assign (place 0 []) (aggregate (ys ++ (copy (place (r + 4) []) ∷ copy (place (r + 5) []) ∷ [])))) return))
+abbrev pub locals : Types → List Local
+locals t = local (t .joint) memorySlot ∷ local (t .array) memorySlot ∷ local (tyInt w64) valueLocal ∷ local (t .answer) valueLocal
+    ∷ local (tyInt w64) valueLocal ∷ local tyBool valueLocal ∷ local (refTo (t .joint-named)) valueLocal ∷ local (refTo (t .array-named)) valueLocal
+    ∷ local (sliceTy (refTo (t .state-named))) valueLocal ∷ local (t .joint) valueLocal ∷ local (t .array) valueLocal ∷ []
 
-abbrev lent-locals : Locals → List Local
-lent-locals t = local (t .answer) valueLocal ∷ local (refTo (t .joint-named)) valueLocal ∷ local (refTo (t .array-named)) valueLocal ∷ local (sliceTy (refTo (t .state-named))) valueLocal ∷ local (t .joint) valueLocal ∷ local (array t) valueLocal ∷ []
-
--- ---- once, where the count that `lent_count` is given is at the local n
-
-abbrev pub once : Name → List Operand → ℕ → ℕ → ℕ → Body
-once f xs s n m = takes s (m + 1) (seq (call #count (copy (place n []) ∷ []) (place (m + 3) [])) (lends (m + 1) (m + 4) (copy (place (m + 3) [])) f xs (gives (m + 1) (m + 4) (copy (place (m + 4) []) ∷ []))))
-
-abbrev pub once-locals : Locals → List Local
-once-locals t = local (t .joint) memorySlot ∷ local (array t) memorySlot ∷ local (tyInt w64) valueLocal ∷ lent-locals t
-
--- ---- again and again, as often as the last parameter says
+abbrev at : ℕ → ℕ → Place
+at p i = place (p + i) []
 
 abbrev pub more : Name → List Operand → ℕ → Body
-more f xs m = lends (m + 1) (m + 5) (int w64 3) f xs (assign (place (m + 3) []) (op2 (add unsigned) (copy (place (m + 3) [])) (int w64 1)))
+more f xs p = seq (assign (at p 7) (addrOf (at p 1)))
+    (seq (assign (at p 8) (addrOf (at p 2)))
+    (seq (assign (at p 9) (aggregate (copy (at p 8) ∷ copy (at p 3) ∷ [])))
+    (seq (call f xs (at p 4)) (assign (at p 5) (op2 (add unsigned) (copy (at p 5)) (int w64 1))))))
 
 abbrev pub turn : Name → List Operand → ℕ → Body
-turn f xs m = seq (assign (place (m + 4) []) (op2 (lt unsigned) (copy (place (m + 3) [])) (copy (place m [])))) (seq (cond (copy (place (m + 4) [])) skip (exit 1)) (more f xs m))
+turn f xs p = seq (assign (at p 6) (op2 (lt unsigned) (copy (at p 5)) (copy (at p 0)))) (seq (cond (copy (at p 6)) skip (exit 1)) (more f xs p))
 
-abbrev pub rest : ℕ → Body
-rest m = gives (m + 1) (m + 5) []
+abbrev pub gives : ℕ → Body
+gives p = seq (assign (at p 10) (rvOpd (copy (at p 1))))
+    (seq (assign (at p 11) (rvOpd (copy (at p 2))))
+    (seq (assign (place 0 []) (aggregate (copy (at p 4) ∷ copy (at p 10) ∷ copy (at p 11) ∷ []))) return))
 
-abbrev pub repeats : Name → List Operand → ℕ → ℕ → Body
-repeats f xs s m = takes s (m + 1) (seq (assign (place (m + 3) []) (rvOpd (int w64 0))) (seq (block (loop (turn f xs m))) (rest m)))
-
-abbrev pub repeat-locals : Locals → List Local
-repeat-locals t = local (t .joint) memorySlot ∷ local (array t) memorySlot ∷ local (tyInt w64) valueLocal ∷ local tyBool valueLocal ∷ lent-locals t
+-- s and n are the parameters that hold the states and the body count
+abbrev pub body : Name → List Operand → ℕ → ℕ → ℕ → Body
+body f xs s n p = seq (assign (at p 1) (rvOpd (copy (place 1 []))))
+    (seq (assign (at p 2) (rvOpd (copy (place s []))))
+    (seq (call #count (copy (place n []) ∷ []) (at p 3))
+    (seq (assign (at p 4) (aggregate (int w32 0 ∷ int w32 0 ∷ [])))
+    (seq (assign (at p 5) (rvOpd (int w64 0)))
+    (seq (block (loop (turn f xs p))) (gives p))))))

@@ -1,5 +1,9 @@
-// The direct calls on a joint and states that are handed over by value: they are lent to one call, or to
-// many, each on what the one before it left, and handed back as the last left them.
+// The direct calls on a joint and states that are handed over by value: they are lent to a number of
+// calls, each on what the one before it left, and handed back as the last left them.
+//
+// The first call stands before the loop. So a direct call has two callers where a program makes it by
+// these functions alone, and stays a call, as it does in the Rust. As a part of the loop it would not be
+// worked whole each time, since what no call changes would be read before the loop.
 ghost use mathlib.Core.Path.{_≡_};
 ghost use Prim.Native.Nat.{min};
 ghost use Rattle.direct.specs.Direct as D;
@@ -15,261 +19,199 @@ use records::body::BodyState;
 use records::joint::JointSim;
 use solver::StepContext;
 
-// What a call answered, and what it left.
-pub struct Left {
+// What the last call answered (number 0 and place 0 where there was none), and what the calls left.
+pub struct Lent {
     pub answer: Answer,
     pub joint: JointSim,
-    pub states: [BodyState; 3],
+    pub states: [BodyState; 40],
 }
 
 // How many states are lent: the body count, or all of them where there are not as many.
 fn lent_count(body_count: usize) -> usize
-    ensures { λ r. ⌜ r ≡ min «body_count» 3 ⌝ }
+    ensures { λ r. ⌜ r ≡ min «body_count» 40 ⌝ }
 {
-    if body_count < 3 {
+    if body_count < 40 {
         return body_count;
     }
-    3
+    40
 }
 
 pub fn lend_warm_start_revolute_joint(
-    joint: JointSim,
-    states: [BodyState; 3],
+    mut joint: JointSim,
+    mut states: [BodyState; 40],
     body_count: usize,
-) -> Left
-    ensures { λ r. ⌜ r ≡ L.lentCall (D.warmStart D.revolute) joint states «body_count» ⌝ }
+    calls: u64,
+) -> Lent
+    ensures { λ r. ⌜ r ≡ L.lentCalls (D.warmStart D.revolute) joint states «body_count» calls ⌝ }
 {
-    let mut j = joint;
-    let mut s = states;
     let n = lent_count(body_count);
-    let answer = warm_start_revolute_joint(&mut j, &mut s[..n]);
-    Left {
+    let mut answer = Answer {
+        number: 0,
+        place: 0,
+    };
+    let mut i = 0u64;
+    if i < calls {
+        answer = warm_start_revolute_joint(&mut joint, &mut states[..n]);
+        i = 1;
+    }
+    while i < calls {
+        answer = warm_start_revolute_joint(&mut joint, &mut states[..n]);
+        i += 1;
+    }
+    Lent {
         answer,
-        joint: j,
-        states: s,
+        joint,
+        states,
     }
 }
 
 pub fn lend_warm_start_spherical_joint(
-    joint: JointSim,
-    states: [BodyState; 3],
+    mut joint: JointSim,
+    mut states: [BodyState; 40],
     body_count: usize,
-) -> Left
-    ensures { λ r. ⌜ r ≡ L.lentCall (D.warmStart D.spherical) joint states «body_count» ⌝ }
+    calls: u64,
+) -> Lent
+    ensures { λ r. ⌜ r ≡ L.lentCalls (D.warmStart D.spherical) joint states «body_count» calls ⌝ }
 {
-    let mut j = joint;
-    let mut s = states;
     let n = lent_count(body_count);
-    let answer = warm_start_spherical_joint(&mut j, &mut s[..n]);
-    Left {
+    let mut answer = Answer {
+        number: 0,
+        place: 0,
+    };
+    let mut i = 0u64;
+    if i < calls {
+        answer = warm_start_spherical_joint(&mut joint, &mut states[..n]);
+        i = 1;
+    }
+    while i < calls {
+        answer = warm_start_spherical_joint(&mut joint, &mut states[..n]);
+        i += 1;
+    }
+    Lent {
         answer,
-        joint: j,
-        states: s,
+        joint,
+        states,
     }
 }
 
 pub fn lend_warm_start_weld_joint(
-    joint: JointSim,
-    states: [BodyState; 3],
+    mut joint: JointSim,
+    mut states: [BodyState; 40],
     body_count: usize,
-) -> Left
-    ensures { λ r. ⌜ r ≡ L.lentCall (D.warmStart D.weld) joint states «body_count» ⌝ }
+    calls: u64,
+) -> Lent
+    ensures { λ r. ⌜ r ≡ L.lentCalls (D.warmStart D.weld) joint states «body_count» calls ⌝ }
 {
-    let mut j = joint;
-    let mut s = states;
     let n = lent_count(body_count);
-    let answer = warm_start_weld_joint(&mut j, &mut s[..n]);
-    Left {
+    let mut answer = Answer {
+        number: 0,
+        place: 0,
+    };
+    let mut i = 0u64;
+    if i < calls {
+        answer = warm_start_weld_joint(&mut joint, &mut states[..n]);
+        i = 1;
+    }
+    while i < calls {
+        answer = warm_start_weld_joint(&mut joint, &mut states[..n]);
+        i += 1;
+    }
+    Lent {
         answer,
-        joint: j,
-        states: s,
+        joint,
+        states,
     }
 }
 
 pub fn lend_solve_revolute_joint(
-    joint: JointSim,
+    mut joint: JointSim,
     context: StepContext,
-    states: [BodyState; 3],
+    mut states: [BodyState; 40],
     body_count: usize,
     use_bias: bool,
-) -> Left
-    ensures { λ r. ⌜ r ≡ L.lentCall (D.solve D.revolute context «use_bias») joint states «body_count» ⌝ }
+    calls: u64,
+) -> Lent
+    ensures { λ r. ⌜ r ≡ L.lentCalls (D.solve D.revolute context «use_bias») joint states «body_count» calls ⌝ }
 {
-    let mut j = joint;
-    let mut s = states;
     let n = lent_count(body_count);
-    let answer = solve_revolute_joint(&mut j, context, &mut s[..n], use_bias);
-    Left {
+    let mut answer = Answer {
+        number: 0,
+        place: 0,
+    };
+    let mut i = 0u64;
+    if i < calls {
+        answer = solve_revolute_joint(&mut joint, context, &mut states[..n], use_bias);
+        i = 1;
+    }
+    while i < calls {
+        answer = solve_revolute_joint(&mut joint, context, &mut states[..n], use_bias);
+        i += 1;
+    }
+    Lent {
         answer,
-        joint: j,
-        states: s,
+        joint,
+        states,
     }
 }
 
 pub fn lend_solve_spherical_joint(
-    joint: JointSim,
+    mut joint: JointSim,
     context: StepContext,
-    states: [BodyState; 3],
+    mut states: [BodyState; 40],
     body_count: usize,
     use_bias: bool,
-) -> Left
-    ensures { λ r. ⌜ r ≡ L.lentCall (D.solve D.spherical context «use_bias») joint states «body_count» ⌝ }
+    calls: u64,
+) -> Lent
+    ensures { λ r. ⌜ r ≡ L.lentCalls (D.solve D.spherical context «use_bias») joint states «body_count» calls ⌝ }
 {
-    let mut j = joint;
-    let mut s = states;
     let n = lent_count(body_count);
-    let answer = solve_spherical_joint(&mut j, context, &mut s[..n], use_bias);
-    Left {
+    let mut answer = Answer {
+        number: 0,
+        place: 0,
+    };
+    let mut i = 0u64;
+    if i < calls {
+        answer = solve_spherical_joint(&mut joint, context, &mut states[..n], use_bias);
+        i = 1;
+    }
+    while i < calls {
+        answer = solve_spherical_joint(&mut joint, context, &mut states[..n], use_bias);
+        i += 1;
+    }
+    Lent {
         answer,
-        joint: j,
-        states: s,
+        joint,
+        states,
     }
 }
 
 pub fn lend_solve_weld_joint(
-    joint: JointSim,
+    mut joint: JointSim,
     context: StepContext,
-    states: [BodyState; 3],
+    mut states: [BodyState; 40],
     body_count: usize,
     use_bias: bool,
-) -> Left
-    ensures { λ r. ⌜ r ≡ L.lentCall (D.solve D.weld context «use_bias») joint states «body_count» ⌝ }
+    calls: u64,
+) -> Lent
+    ensures { λ r. ⌜ r ≡ L.lentCalls (D.solve D.weld context «use_bias») joint states «body_count» calls ⌝ }
 {
-    let mut j = joint;
-    let mut s = states;
     let n = lent_count(body_count);
-    let answer = solve_weld_joint(&mut j, context, &mut s[..n], use_bias);
-    Left {
+    let mut answer = Answer {
+        number: 0,
+        place: 0,
+    };
+    let mut i = 0u64;
+    if i < calls {
+        answer = solve_weld_joint(&mut joint, context, &mut states[..n], use_bias);
+        i = 1;
+    }
+    while i < calls {
+        answer = solve_weld_joint(&mut joint, context, &mut states[..n], use_bias);
+        i += 1;
+    }
+    Lent {
         answer,
-        joint: j,
-        states: s,
-    }
-}
-
-// A joint and states, as calls left them.
-pub struct Worked {
-    pub joint: JointSim,
-    pub states: [BodyState; 3],
-}
-
-pub fn repeat_warm_start_revolute_joint(
-    joint: JointSim,
-    states: [BodyState; 3],
-    calls: u64,
-) -> Worked
-    ensures { λ r. ⌜ r ≡ L.repeated (D.warmStart D.revolute) joint states calls ⌝ }
-{
-    let mut j = joint;
-    let mut s = states;
-    let mut i = 0u64;
-    while i < calls {
-        warm_start_revolute_joint(&mut j, &mut s);
-        i += 1;
-    }
-    Worked {
-        joint: j,
-        states: s,
-    }
-}
-
-pub fn repeat_warm_start_spherical_joint(
-    joint: JointSim,
-    states: [BodyState; 3],
-    calls: u64,
-) -> Worked
-    ensures { λ r. ⌜ r ≡ L.repeated (D.warmStart D.spherical) joint states calls ⌝ }
-{
-    let mut j = joint;
-    let mut s = states;
-    let mut i = 0u64;
-    while i < calls {
-        warm_start_spherical_joint(&mut j, &mut s);
-        i += 1;
-    }
-    Worked {
-        joint: j,
-        states: s,
-    }
-}
-
-pub fn repeat_warm_start_weld_joint(joint: JointSim, states: [BodyState; 3], calls: u64) -> Worked
-    ensures { λ r. ⌜ r ≡ L.repeated (D.warmStart D.weld) joint states calls ⌝ }
-{
-    let mut j = joint;
-    let mut s = states;
-    let mut i = 0u64;
-    while i < calls {
-        warm_start_weld_joint(&mut j, &mut s);
-        i += 1;
-    }
-    Worked {
-        joint: j,
-        states: s,
-    }
-}
-
-pub fn repeat_solve_revolute_joint(
-    joint: JointSim,
-    context: StepContext,
-    states: [BodyState; 3],
-    use_bias: bool,
-    calls: u64,
-) -> Worked
-    ensures { λ r. ⌜ r ≡ L.repeated (D.solve D.revolute context «use_bias») joint states calls ⌝ }
-{
-    let mut j = joint;
-    let mut s = states;
-    let mut i = 0u64;
-    while i < calls {
-        solve_revolute_joint(&mut j, context, &mut s, use_bias);
-        i += 1;
-    }
-    Worked {
-        joint: j,
-        states: s,
-    }
-}
-
-pub fn repeat_solve_spherical_joint(
-    joint: JointSim,
-    context: StepContext,
-    states: [BodyState; 3],
-    use_bias: bool,
-    calls: u64,
-) -> Worked
-    ensures { λ r. ⌜ r ≡ L.repeated (D.solve D.spherical context «use_bias») joint states calls ⌝ }
-{
-    let mut j = joint;
-    let mut s = states;
-    let mut i = 0u64;
-    while i < calls {
-        solve_spherical_joint(&mut j, context, &mut s, use_bias);
-        i += 1;
-    }
-    Worked {
-        joint: j,
-        states: s,
-    }
-}
-
-pub fn repeat_solve_weld_joint(
-    joint: JointSim,
-    context: StepContext,
-    states: [BodyState; 3],
-    use_bias: bool,
-    calls: u64,
-) -> Worked
-    ensures { λ r. ⌜ r ≡ L.repeated (D.solve D.weld context «use_bias») joint states calls ⌝ }
-{
-    let mut j = joint;
-    let mut s = states;
-    let mut i = 0u64;
-    while i < calls {
-        solve_weld_joint(&mut j, context, &mut s, use_bias);
-        i += 1;
-    }
-    Worked {
-        joint: j,
-        states: s,
+        joint,
+        states,
     }
 }

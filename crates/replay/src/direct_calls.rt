@@ -21,7 +21,7 @@ use crate::words::behind;
 use crate::words::plus;
 use crate::words::switch;
 use crate::words::word;
-use lent_calls::Left;
+use lent_calls::Lent;
 use lent_calls::lend_solve_revolute_joint;
 use lent_calls::lend_solve_spherical_joint;
 use lent_calls::lend_solve_weld_joint;
@@ -29,19 +29,20 @@ use lent_calls::lend_warm_start_revolute_joint;
 use lent_calls::lend_warm_start_spherical_joint;
 use lent_calls::lend_warm_start_weld_joint;
 use records::body::BodyState;
+use records::body::IDENTITY_BODY_STATE;
 use solver::StepContext;
 
 // The call on the joint of the inputs and the states of `rest`.
-fn warm_start(kind: u32, p: &[u8], rest: &[u8], count: usize) -> Left {
+fn warm_start(kind: u32, p: &[u8], rest: &[u8], count: usize) -> Lent {
     let joint = cased_joint(p);
     let states = states_at(rest);
     if kind == 0 {
-        return lend_warm_start_revolute_joint(joint, states, count);
+        return lend_warm_start_revolute_joint(joint, states, count, 1);
     }
     if kind == 1 {
-        return lend_warm_start_spherical_joint(joint, states, count);
+        return lend_warm_start_spherical_joint(joint, states, count, 1);
     }
-    lend_warm_start_weld_joint(joint, states, count)
+    lend_warm_start_weld_joint(joint, states, count, 1)
 }
 
 fn solve(
@@ -51,24 +52,25 @@ fn solve(
     use_bias: bool,
     rest: &[u8],
     count: usize,
-) -> Left {
+) -> Lent {
     let joint = cased_joint(p);
     let states = states_at(rest);
     if kind == 0 {
-        return lend_solve_revolute_joint(joint, step, states, count, use_bias);
+        return lend_solve_revolute_joint(joint, step, states, count, use_bias, 1);
     }
     if kind == 1 {
-        return lend_solve_spherical_joint(joint, step, states, count, use_bias);
+        return lend_solve_spherical_joint(joint, step, states, count, use_bias, 1);
     }
-    lend_solve_weld_joint(joint, step, states, count, use_bias)
+    lend_solve_weld_joint(joint, step, states, count, use_bias, 1)
 }
 
-// Three states, of which the first are those that a case has.
-fn states_at(p: &[u8]) -> [BodyState; 3] {
-    let first = state(p);
-    let second = state(behind(p, STATE_WORDS));
-    let third = state(behind(p, 2 * STATE_WORDS));
-    [first, second, third]
+// Three states, of which the first are those that a case has, before others that are not lent.
+fn states_at(p: &[u8]) -> [BodyState; 40] {
+    let mut states = [IDENTITY_BODY_STATE; 40];
+    states[0] = state(p);
+    states[1] = state(behind(p, STATE_WORDS));
+    states[2] = state(behind(p, 2 * STATE_WORDS));
+    states
 }
 
 // Whether the words begin with those of a state, if one is lent.
@@ -77,7 +79,7 @@ fn same_lent(is_lent: bool, p: &[u8], state: BodyState) -> bool {
 }
 
 // Whether the words begin with those of the first `count` states.
-fn same_states(p: &[u8], states: [BodyState; 3], count: u32) -> bool {
+fn same_states(p: &[u8], states: [BodyState; 40], count: u32) -> bool {
     let first = states[0];
     let second = states[1];
     let third = states[2];
@@ -88,7 +90,7 @@ fn same_states(p: &[u8], states: [BodyState; 3], count: u32) -> bool {
 
 // Whether the words behind the states are the answer: number, place, the joint of the case, and the
 // states.
-fn same_left(case: u32, rest: &[u8], count: u32, left: Left) -> bool {
+fn same_left(case: u32, rest: &[u8], count: u32, left: Lent) -> bool {
     let p = behind(rest, words_of_states(count));
     let answer = left.answer;
     let states = left.states;
