@@ -61,11 +61,13 @@ module _ {M : Type 1} (𝓤 : URA M) (H : Heap 𝓤) (A : Atoms 𝓤) (J R Wn : 
   After r x zs α β γ γ′ w = later (‵ (Wn .own r (w ∷ [])) ⊛ ‵ (fres γ (J .coded .code x)) ⊛ ‵ (finally R γ′ zs)
       ⊛ ‵ (flft (α ∷ []) fullShare) ⊛ ‵ (flft (β ∷ []) fullShare))
 
-  -- a function f in the table C that is lent x and the m elements zs, and leaves x′ and zs′
-  pub record Callee (C : Calls 𝓤 H) (f : Name) (x : J .Denot) (m : ℕ) (zs : List (R .Denot)) (r : Wn .Denot) (x′ : J .Denot) (zs′ : List (R .Denot)) : Type 2 where
+  -- a function f in the table C that is called on vs, is lent x and the m elements zs, answers r and leaves x′ and zs′
+  pub record Callee (C : Calls 𝓤 H) (f : Name) (vs : List Val) (x : J .Denot) (m : ℕ) (zs : List (R .Denot)) (r : Wn .Denot) (x′ : J .Denot)
+      (zs′ : List (R .Denot)) : Type 2 where
     pub contract : Contract 𝓤
     pub known : Triple 𝓤 (C f) contract
     pub ghost : (α β : ℕ) (γ γ′ : GName) → contract .Ghost
+    pub args : (α β : ℕ) (γ γ′ : GName) → contract .args (ghost α β γ γ′) ≡ vs
     pub pre : (α β : ℕ) (γ γ′ : GName) → ent 𝓤 (⋆ 𝓤 H A (Had x m zs α β γ γ′)) (contract .pre (ghost α β γ γ′))
     pub post : (α β : ℕ) (γ γ′ : GName) (w : Val) → ent 𝓤 (contract .post (ghost α β γ γ′) w) (mean 𝓤 H A (After r x′ zs′ α β γ γ′ w))
 
@@ -167,9 +169,9 @@ module _ {M : Type 1} (𝓤 : URA M) (H : Heap 𝓤) (A : Atoms 𝓤) (W : Given
           subst (λ (u : List Val). Seq K W Γ (lands C Λ E d (only u) rest p)) (sym e) (k′ (subst (Is (w .row) r′) e is))
 
     module _ {K : Type 0} {Γ : List (Item 𝓤)} {E : Env 𝓤 H} {C : Calls 𝓤 H} {Λ : Loops 𝓤 H} {p : Kit.Post 𝓤 H} {d : Place} {rest : Body} where
-      pub calls-lending : {f : Name} {xs : List Operand} → K → FmC 𝓤 H (W .laws) C → (c : Callee 𝓤 H A J R (w .row) b b′ C f h m (take k ys) r′ h′ zs) → Of j h → Of a ys
-          → ((α β : ℕ) (γ γ′ : GName)
-          → Opds K W (raw (c .contract .pre (c .ghost α β γ γ′)) ∷ Keeps α β γ γ′ ∷ Γ) E xs (c .contract .args (c .ghost α β γ γ′)))
+      pub calls-lending : {f : Name} {xs : List Operand} {vs : List Val} → K → FmC 𝓤 H (W .laws) C
+          → (c : Callee 𝓤 H A J R (w .row) b b′ C f vs h m (take k ys) r′ h′ zs) → Of j h → Of a ys
+          → ((α β : ℕ) (γ γ′ : GName) → Opds K W (raw (c .contract .pre (c .ghost α β γ γ′)) ∷ Keeps α β γ γ′ ∷ Γ) E xs vs)
           → (Of w r′ → Of j h′ → Of a (zs ++ drop-list k ys) → Seq K W (Cells h′ (zs ++ drop-list k ys) Γ) (lands C Λ E d (w .val r′) rest p))
           → Seq K W (Cells h ys Γ) (runs C Λ E (seq (call f xs d) rest) p)
       calls-lending t fm c j-is a-is os k′ =
@@ -179,7 +181,8 @@ module _ {M : Type 1} (𝓤 : URA M) (H : Heap 𝓤) (A : Atoms 𝓤) (W : Given
           -- [the slice; what the array's lender keeps; the reference; what the value's lender keeps; β's token; α's token; Γ]
           move t (2 ∷ 0 ∷ 5 ∷ 4 ∷ 3 ∷ 1 ∷ []) $
           cut (Had 𝓤 H A J R (w .row) b b′ h m (take k ys) α β γ γ′) (raw (c .contract .pre (c .ghost α β γ γ′)) ∷ []) _ (c .pre α β γ γ′) $
-          move t (1 ∷ 2 ∷ []) $ join t $ move t (1 ∷ 0 ∷ []) $ calls-at t fm (c .contract) (c .known) (c .ghost α β γ γ′) (os α β γ γ′) (λ v.
+          move t (1 ∷ 2 ∷ []) $ join t $ move t (1 ∷ 0 ∷ []) $ calls-at t fm (c .contract) (c .known) (c .ghost α β γ γ′)
+          (subst (Opds K W _ E _) (sym (c .args α β γ γ′)) (os α β γ γ′)) (λ v.
           use1 W (After 𝓤 H A J R (w .row) b b′ r′ h′ zs α β γ γ′ v) (c .post α β γ γ′ v) $ await t tt $ split t $
           facts t (w .row) (Is (w .row)) (shows 𝓤 H A (w .row)) r′ (v ∷ []) (λ is.
           split t $ move t (1 ∷ []) $ split t $ move t (1 ∷ []) $ split t $ move t (4 ∷ []) $ split t $

@@ -1,13 +1,14 @@
 -- The MIR of the functions, but for their parameters and the callee's operands. Definitions only. Assumes nothing.
 --     Types            the types of the locals. A walk takes them as a variable
 --     body, locals     the body, and the locals after the parameters
---     turn, more       a turn of the loop, and what it does where there is a call to make
+--     begin            from the first call on, where there is one to make.        turn, more       a turn of the loop, and what it does where there is a call to make
 --     gives            what stands after the loop
--- p is the local of the last parameter, which says how often the callee f is called on xs. Behind it stand 1 the joint, 2 the states, 3 the count of those that
--- are lent, 4 the answer, 5 how many calls are made, 6 the loop's test, the references to 7 the joint, 8 the array and 9 its states, and 10 and 11 what is returned.
+-- p is the local of the last parameter, which says how often the callee f is called. Behind it stand 1 the joint, 2 the states, 3 the count of those that are lent,
+-- 4 the answer, 5 how many calls are made; for the first call 6 whether there is one, and the references to 7 the joint, 8 the array and 9 its states; the same for a
+-- call of the loop, 10 to 13; 14 and 15 what is returned. A call whose locals begin at q has the operands `xs q`.
 use mathlib.Core.List.{[], _∷_, List}
 use Prim.Native.Nat.{ℕ, _+_}
-use mir.Syntax.{Name, Ty, Local, Place, Opd as Operand, Body, w32, w64, erased, mut, tyInt, tyBool, tyRef, tyArray, place, unsigned, copy, int, rvOpd, op2, lt, add}
+use mir.Syntax.{Name, Ty, Local, Place, Opd as Operand, Body, w32, w64, erased, mut, tyInt, tyBool, tyRef, place, unsigned, copy, int, rvOpd, op2, lt, add}
 use mir.Syntax.{local, valueLocal, memorySlot, skip, seq, assign, block, loop, cond, exit, call, return, addrOf, aggregate}
 use denote.Slice.{sliceTy}
 use Rattle.lent_calls.proofs.lent_count.Symbol.{name as #count}
@@ -25,33 +26,47 @@ pub record Types : Type 0 where
 abbrev pub refTo : Ty → Ty
 refTo τ = tyRef erased mut τ
 
-abbrev pub locals : Types → List Local
-locals t = local (t .joint) memorySlot ∷ local (t .array) memorySlot ∷ local (tyInt w64) valueLocal ∷ local (t .answer) valueLocal
-    ∷ local (tyInt w64) valueLocal ∷ local tyBool valueLocal ∷ local (refTo (t .joint-named)) valueLocal ∷ local (refTo (t .array-named)) valueLocal
-    ∷ local (sliceTy (refTo (t .state-named))) valueLocal ∷ local (t .joint) valueLocal ∷ local (t .array) valueLocal ∷ []
+abbrev called : Types → List Local → List Local
+called t ls = local tyBool valueLocal ∷ local (refTo (t .joint-named)) valueLocal ∷ local (refTo (t .array-named)) valueLocal
+    ∷ local (sliceTy (refTo (t .state-named))) valueLocal ∷ ls
 
-abbrev at : ℕ → ℕ → Place
+abbrev pub locals : Types → List Local
+locals t = local (t .joint) memorySlot ∷ local (t .array) memorySlot ∷ local (tyInt w64) valueLocal ∷ local (t .answer) valueLocal ∷ local (tyInt w64) valueLocal
+    ∷ called t (called t (local (t .joint) valueLocal ∷ local (t .array) valueLocal ∷ []))
+
+abbrev pub at : ℕ → ℕ → Place
 at p i = place (p + i) []
 
-abbrev pub more : Name → List Operand → ℕ → Body
-more f xs p = seq (assign (at p 7) (addrOf (at p 1)))
-    (seq (assign (at p 8) (addrOf (at p 2)))
-    (seq (assign (at p 9) (aggregate (copy (at p 8) ∷ copy (at p 3) ∷ [])))
-    (seq (call f xs (at p 4)) (assign (at p 5) (op2 (add unsigned) (copy (at p 5)) (int w64 1))))))
+abbrev pub calls : Name → (ℕ → List Operand) → ℕ → ℕ → Body → Body
+calls f xs p q b = seq (assign (at p (q + 1)) (addrOf (at p 1)))
+    (seq (assign (at p (q + 2)) (addrOf (at p 2)))
+    (seq (assign (at p (q + 3)) (aggregate (copy (at p (q + 2)) ∷ copy (at p 3) ∷ []))) (seq (call f (xs q) (at p 4)) b)))
 
-abbrev pub turn : Name → List Operand → ℕ → Body
-turn f xs p = seq (assign (at p 6) (op2 (lt unsigned) (copy (at p 5)) (copy (at p 0)))) (seq (cond (copy (at p 6)) skip (exit 1)) (more f xs p))
+-- whether there is a call to make
+abbrev asks : ℕ → ℕ → Body → Body
+asks p q b = seq (assign (at p q) (op2 (lt unsigned) (copy (at p 5)) (copy (at p 0)))) b
+
+abbrev pub more : Name → (ℕ → List Operand) → ℕ → Body
+more f xs p = calls f xs p 10 (assign (at p 5) (op2 (add unsigned) (copy (at p 5)) (int w64 1)))
+
+abbrev pub turn : Name → (ℕ → List Operand) → ℕ → Body
+turn f xs p = asks p 10 (seq (cond (copy (at p 10)) skip (exit 1)) (more f xs p))
 
 abbrev pub gives : ℕ → Body
-gives p = seq (assign (at p 10) (rvOpd (copy (at p 1))))
-    (seq (assign (at p 11) (rvOpd (copy (at p 2))))
-    (seq (assign (place 0 []) (aggregate (copy (at p 4) ∷ copy (at p 10) ∷ copy (at p 11) ∷ []))) return))
+gives p = seq (assign (at p 14) (rvOpd (copy (at p 1))))
+    (seq (assign (at p 15) (rvOpd (copy (at p 2))))
+    (seq (assign (place 0 []) (aggregate (copy (at p 4) ∷ copy (at p 14) ∷ copy (at p 15) ∷ []))) return))
+
+abbrev pub goes-on : Name → (ℕ → List Operand) → ℕ → Body
+goes-on f xs p = seq (block (loop (turn f xs p))) (gives p)
+
+abbrev pub begin : Name → (ℕ → List Operand) → ℕ → Body
+begin f xs p = asks p 6 (seq (cond (copy (at p 6)) (calls f xs p 6 (assign (at p 5) (rvOpd (int w64 1)))) skip) (goes-on f xs p))
 
 -- s and n are the parameters that hold the states and the body count
-abbrev pub body : Name → List Operand → ℕ → ℕ → ℕ → Body
+abbrev pub body : Name → (ℕ → List Operand) → ℕ → ℕ → ℕ → Body
 body f xs s n p = seq (assign (at p 1) (rvOpd (copy (place 1 []))))
     (seq (assign (at p 2) (rvOpd (copy (place s []))))
     (seq (call #count (copy (place n []) ∷ []) (at p 3))
     (seq (assign (at p 4) (aggregate (int w32 0 ∷ int w32 0 ∷ [])))
-    (seq (assign (at p 5) (rvOpd (int w64 0)))
-    (seq (block (loop (turn f xs p))) (gives p))))))
+    (seq (assign (at p 5) (rvOpd (int w64 0))) (begin f xs p)))))
