@@ -2,7 +2,7 @@
 -- A walk takes the types as variables: what it costs to check does not depend on how large they are. It says nothing of the crate.
 --     Data             the type's row, its MIR type and a value's machine value, and the laws of these
 --     struct, array    of a declared struct; of an array
---     Of, typed        a value is related to its machine value, which then has the MIR type
+--     Of, Fits, typed  a value is related to its machine value; a machine value is of a MIR type; of the one follows the other
 --     lies-in, lies-out    a cell that holds a value's machine value is the value in memory; and back, with `Of`
 -- Assumes nothing, but for `struct`, `array` and the last two, which assume `Given`.
 use mathlib.Core.Path.{_≡_, refl, sym, ap, subst}
@@ -60,11 +60,15 @@ module _ {M : Type 1} (𝓤 : URA M) (H : Heap 𝓤) (A : Atoms 𝓤) (W : Given
     lawful = array-lawful 𝓤 H A W (d .row) (d .lawful) n;
   }
 
+-- a machine value is of the MIR type
+abbrev pub Fits : Ty → Val → Type 0
+Fits τ v = T (hasTy τ v) × WT v
+
 module _ {M : Type 1} {𝓤 : URA M} {H : Heap 𝓤} {A : Atoms 𝓤} (d : Data 𝓤 H A) where
   abbrev pub Of : d .row .Denot → Type 0
   Of y = Is (d .row) y (d .val y ∷ [])
 
-  pub typed : (y : d .row .Denot) → Of y → T (hasTy (d .ty) (d .val y)) × WT (d .val y)
+  pub typed : (y : d .row .Denot) → Of y → Fits (d .ty) (d .val y)
   typed y is = subst (λ (τs : List Ty). Typed τs (d .val y ∷ [])) (d .mir-is) (d .lawful .typed y _ is) .0
 
   module _ (W : Given 𝓤 H A) (y : d .row .Denot) (b o : ℕ) where

@@ -3,7 +3,7 @@ use contract.Running.{givenOf, tables, tablesOf}
 use denote.Triple.Spec.{tripleOf}
 use denote.Triple.Table.{entered, cited}
 use Rattle.lent_calls.proofs.Counts.{Count}
-use Rattle.lent_calls.proofs.WarmStart.{Warm, lends-meets}
+use Rattle.lent_calls.proofs.WarmStart.{Called, lends-meets}
 use Rattle.direct.proofs.warm_start_revolute_joint.Symbol as callee-def
 use Rattle.direct.proofs.warm_start_revolute_joint.Symbol.{name as #callee}
 use Rattle.direct.proofs.warm_start_revolute_joint.Met as callee-thm
@@ -22,4 +22,4 @@ lend-warm-start-revolute-joint-spec 𝓤 H 𝓜 𝓖 𝓡 =
     (tables 𝓤 H 𝓜 𝓡 code.env .C) (tables 𝓤 H 𝓜 𝓡 code.env .Λ) #self code.function (code.unfolded 𝓤 H 𝓜 𝓡)
     (lends-meets 𝓤 H (𝓖 .A) (givenOf 𝓤 H 𝓜 𝓖) (𝓜 .mem) (𝓡 .run) 0 #callee (tablesOf 𝓤 H 𝓜 (tables 𝓤 H 𝓜 𝓡 code.env))
     (cited 𝓤 H (Count 𝓤 H (𝓖 .A) (𝓜 .mem) (𝓡 .run)) 𝓜 𝓡 code.env #count count-def.routine code.calls-lent-calls·lent-count (count-thm.met 𝓤 H 𝓜 𝓖 𝓡))
-    (cited 𝓤 H (Warm 0 𝓤 H (𝓖 .A)) 𝓜 𝓡 code.env #callee callee-def.routine code.calls-direct·warm-start-revolute-joint (callee-thm.met 𝓤 H 𝓜 𝓖 𝓡)))
+    (cited 𝓤 H (Called 0 𝓤 H (𝓖 .A)) 𝓜 𝓡 code.env #callee callee-def.routine code.calls-direct·warm-start-revolute-joint (callee-thm.met 𝓤 H 𝓜 𝓖 𝓡)))
