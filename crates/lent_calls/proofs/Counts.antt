@@ -14,7 +14,8 @@ use prog.Wp.{Heap, Env, Calls, Loops}
 use ghost.Atoms.{Atoms}
 use contract.Monad.{Fun, fact}
 use types.Kit as Kit
-use types.Kit.{Given, Item, ‵, raw, some, later, _⊛_, runs, lands, Seq, _$_, _∵_, !, qed, move, drop, use0, use1, split, join, pick, rewrite, fjoin, frame, await, done}
+use types.Kit.{Given, Item, ‵, raw, some, later, _⊛_, runs, lands, Seq, _$_, _∵_, !, qed, move, drop, use0, use1, split, join, pick, rewrite}
+use types.Kit.{fjoin, frame, await, done}
 use types.Run.{Opds}
 use sound.WpLaws.{FmC}
 use denote.Laws.{Is, shows}
@@ -47,7 +48,8 @@ module _ {M : Type 1} (𝓤 : URA M) (H : Heap 𝓤) (A : Atoms 𝓤) (mem : Mem
     abbrev Counted : Val → Item 𝓤
     Counted v = later (some (λ (n : ℕ). (‵ ftrue ⊛ ‵ (usize .own n (v ∷ []))) ⊛ some (λ z. ‵ (lasts counts.ended tt (k, tt) z) ⊛ raw (fact 𝓤 (n ≡ min k all)))))
 
-    module _ {K : Type 0} {Γ : List (Item 𝓤)} {E : Env 𝓤 H} {C : Calls 𝓤 H} {Λ : Loops 𝓤 H} {p : Kit.Post 𝓤 H} {d : Place} {rest : Body} {xs : List Operand} where
+    module _ {K : Type 0} {Γ : List (Item 𝓤)} {E : Env 𝓤 H} {C : Calls 𝓤 H} {Λ : Loops 𝓤 H} {p : Kit.Post 𝓤 H} {d : Place} {rest : Body}
+        {xs : List Operand} where
       pub calls-count : K → FmC 𝓤 H (W .laws) C → Triple 𝓤 (C #count) Count → Opds K W (raw (Count .pre to-count) ∷ Γ) E xs (vint w64 k ∷ [])
           → (min k all < 2 ^ 64 → Seq K W Γ (lands C Λ E d (vint w64 (min k all)) rest p)) → Seq K W Γ (runs C Λ E (seq (call #count xs d) rest) p)
       calls-count t fm known os then =

@@ -1,5 +1,5 @@
--- What the functions do from the first call on: a callee is called again and again, each time on what the call before it left in the two locals that are lent to
--- it, and what was answered and left last is put together. It is over any types, any callee and any parameters, and says nothing of the crate.
+-- What the functions do from the first call on: a callee is called again and again, each time on what the call before it left in the two locals that are lent
+-- to it, and what was answered and left last is put together. It is over any types, any callee and any parameters, and says nothing of the crate.
 --     Left             what calls have answered and left
 --     Sound, Reached   that is of its types; the loop's variant, how many calls are made
 --     Begun, At        what the function has before the first call, and before a turn.        Leaving      when it returns
@@ -65,7 +65,8 @@ module _ {M : Type 1} (𝓤 : URA M) (H : Heap 𝓤) (A : Atoms 𝓤) (W : Given
 
   -- of n calls, what so many leave: k elements are lent to each, as a slice of c, and `lent` is what it leaves of them. τ is the type of the result
   module _ (room : Room (r .row) size) (τ : Ty) (k c n : ℕ) (after : ℕ → Left 𝓤 H A j r w) (lent : ℕ → List (r .row .Denot))
-      (one-more : (i : ℕ) → lent i ++ drop k (after i .states) ≡ after (suc i) .states) (c-fits : c < 2 ^ 64) (n-fits : n < 2 ^ 64) (as-many : (ys : List (r .row .Denot)) → length ys ≡ size → length (take k ys) ≡ c) where
+      (one-more : (i : ℕ) → lent i ++ drop k (after i .states) ≡ after (suc i) .states) (c-fits : c < 2 ^ 64) (n-fits : n < 2 ^ 64)
+      (as-many : (ys : List (r .row .Denot)) → length ys ≡ size → length (take k ys) ≡ c) where
     abbrev Good : ℕ → Type 0
     Good i = Sound 𝓤 H A W j r w size (after i)
 
@@ -99,7 +100,8 @@ module _ {M : Type 1} (𝓤 : URA M) (H : Heap 𝓤) (A : Atoms 𝓤) (W : Given
       there : {K : Type 0} {Γ : List (Item 𝓤)} → K → (i : ℕ) {sp : Spot 𝓤 H} → spotOf 𝓤 H own i ≡ sp → Finds K W Γ En (place (p + i) []) sp
       unfolding Spotted
       there {K} {Γ} t i e =
-          let here-is : Spotted p i = subst (λ (q : ℕ). Spotted q i) p-is (ap (λ (e : Ty × ℕ). (e .0, e .1, zero)) (getD-append-add ((τ, lr) ∷ ps) own i (noLocal 𝓤 H))) in
+          let here-is : Spotted p i = subst (λ (q : ℕ). Spotted q i) p-is
+          (ap (λ (e : Ty × ℕ). (e .0, e .1, zero)) (getD-append-add ((τ, lr) ∷ ps) own i (noLocal 𝓤 H))) in
           record { go = λ Kt h. subst (λ (sp : Spot 𝓤 H). ent 𝓤 (⋆ 𝓤 H A Γ) (Kt sp)) (sym (here-is ∙ e)) h }
 
       here : {K : Type 0} {Γ : List (Item 𝓤)} → K → (i : ℕ) → Finds K W Γ En (place (p + i) []) (spotOf 𝓤 H own i)
@@ -156,10 +158,12 @@ module _ {M : Type 1} (𝓤 : URA M) (H : Heap 𝓤) (A : Atoms 𝓤) (W : Given
         module _ (q l l′ l″ : ℕ) (Θ : List (Item 𝓤)) (e : spotOf 𝓤 H own (q + 1) ≡ (ρj, l, 0))
             (e′ : spotOf 𝓤 H own (q + 2) ≡ (ρa, l′, 0)) (e″ : spotOf 𝓤 H own (q + 3) ≡ (ρs, l″, 0)) where
           makes-call : (i : ℕ) {b : Body} {z : Kit.Post 𝓤 H} → Operands q l l′ l″ Θ → Good i
-              → (Good (suc i) → Sq W (Held (suc i) i (Refs l l′ l″ Θ)) (runs (𝓣 .C) (𝓣 .Λ) En b z)) → Sq W (Held i i (Refs l l′ l″ Θ)) (runs (𝓣 .C) (𝓣 .Λ) En (calls f xs p q b) z)
+              → (Good (suc i) → Sq W (Held (suc i) i (Refs l l′ l″ Θ)) (runs (𝓣 .C) (𝓣 .Λ) En b z))
+              → Sq W (Held i i (Refs l l′ l″ Θ)) (runs (𝓣 .C) (𝓣 .Λ) En (calls f xs p q b) z)
           makes-call i operands s then =
               let many : length (take k (after i .states)) ≡ c = as-many (after i .states) (s .states-is .1 .0 .1) in
-              assigns ! (addr ! (here ! 1)) (there ! (q + 1) e) (init ! 6 refl (tt, tt)) $ assigns ! (addr ! (here ! 2)) (there ! (q + 2) e′) (init ! 7 refl (tt, tt)) $
+              assigns ! (addr ! (here ! 1)) (there ! (q + 1) e) (init ! 6 refl (tt, tt)) $
+              assigns ! (addr ! (here ! 2)) (there ! (q + 2) e′) (init ! 7 refl (tt, tt)) $
               assigns ! (agg ! (and-then ! (load ! (there ! (q + 2) e′) (look ! 7 refl)) (and-then ! (load ! (here ! 3) (look ! 5 refl)) (no-more !))))
               (there ! (q + 3) e″) (init ! 8 refl (tt, (tt, (record { fits = c-fits }, tt)))) $
               calls-lending 𝓤 H A W r size room l₂ (after i .states) k c many j w l₁ (after i .joint) (after (suc i) .answer) (after (suc i) .joint) (lent i) !
@@ -186,7 +190,8 @@ module _ {M : Type 1} (𝓤 : URA M) (H : Heap 𝓤) (A : Atoms 𝓤) (W : Given
               let fits : x .made + 1 < 2 ^ 64 = rw (add-one (x .made)) (lt-of-le-of-lt less n-fits) in
               skips ! $ exec ! (𝓣 .C) (𝓣 .Λ) En (more f xs p) (anyQ (Turned x)) $ forget ! 9 refl $
               makes-call 10 l₁₁ l₁₂ l₁₃ Later refl refl refl (x .made) later-operands (x .sound) (λ s.
-              assigns-last ! (bin ! (load ! (here ! 5) (look ! 3 refl)) (lit ! tt) (record { fits = fits })) (here ! 5) (store ! 3 refl (tt, record { fits = fits })) $
+              assigns-last ! (bin ! (load ! (here ! 5) (look ! 3 refl)) (lit ! tt) (record { fits = fits })) (here ! 5)
+              (store ! 3 refl (tt, record { fits = fits })) $
               rewrite ! 3 (λ (i : ℕ). ‵ (fat fullShare (tyInt w64) l₅ 0 (vint w64 i))) (add-one (x .made)) refl $
               again ! Nearer At x (record { made = suc (x .made); within = less; sound = s }) (sub-suc-lt n (x .made) less)))
               (λ over. jumps ! $ exec ! (𝓣 .C) (𝓣 .Λ) En (gives p) (atRet En Post) $

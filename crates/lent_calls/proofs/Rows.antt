@@ -87,7 +87,19 @@ module _ {M : Type 1} (𝓤 : URA M) (H : Heap 𝓤) (A : Atoms 𝓤) (W : Given
     val-l = vstruct (ofList (answer .val (y .answer) ∷ joint-sim .val (y .joint) ∷ array 𝓤 H A W body-state all .val (y .states) ∷ []))
 
     pub l-of : Of answer (y .answer) → Of joint-sim (y .joint) → Of (array 𝓤 H A W body-state all) (y .states) → Is Lf y (val-l ∷ [])
-    l-of w-is j-is a-is = (_, (refl, (w-is, (j-is, (is-same (Ts.the-field .row) BodyState (Ts.the-field .into) (Ts.the-field .into-one) all (y .states) _ a-is, tt)))))
+    l-of w-is j-is a-is = (
+      _,
+      (
+        refl,
+        (
+          w-is,
+          (
+            j-is,
+            (is-same (Ts.the-field .row) BodyState (Ts.the-field .into) (Ts.the-field .into-one) all (y .states) _ a-is, tt),
+          ),
+        ),
+      ),
+    )
 
     pub typed-l : Is Lf y (val-l ∷ []) → Fits Tl′.mir val-l
     typed-l is = LL.lawful Tl.the-type Tl′.the-laws 𝓤 H A W .typed y _ is .0

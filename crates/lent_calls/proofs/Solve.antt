@@ -123,7 +123,8 @@ callee-clauses kind 𝓤 κs a = record {
 abbrev pub Called : ℕ → {M : Type 1} (𝓤 : URA M) (H : Heap 𝓤) (A : Atoms 𝓤) → Contract 𝓤
 Called kind 𝓤 H A = tripleOf 𝓤 H A (callee-ended .signature) (closing 𝓤 H A callee-ended (callee-clauses kind 𝓤))
 
-module _ {M : Type 1} (𝓤 : URA M) (H : Heap 𝓤) (A : Atoms 𝓤) (W : Given 𝓤 H A) (kind : ℕ) (C : Calls 𝓤 H) (f : Name) (known : Triple 𝓤 (C f) (Called kind 𝓤 H A))
+module _ {M : Type 1} (𝓤 : URA M) (H : Heap 𝓤) (A : Atoms 𝓤) (W : Given 𝓤 H A) (kind : ℕ) (C : Calls 𝓤 H) (f : Name)
+    (known : Triple 𝓤 (C f) (Called kind 𝓤 H A))
     (ctx : StepContext) (u : Bool) (x-is : Of (step-context 𝓤 H A W) ctx) (b b′ : ℕ) (h : JointSim) (m : ℕ) (zs : List BodyState) where
   abbrev val-x : Val
   val-x = step-context 𝓤 H A W .val ctx
@@ -154,7 +155,8 @@ module _ {M : Type 1} (𝓤 : URA M) (H : Heap 𝓤) (A : Atoms 𝓤) (W : Given
         -- [what the four own; the tokens]
         nothing ! $ move ! (3 ∷ 0 ∷ []) $ join ! $ move ! (2 ∷ 0 ∷ []) $ join ! $ join ! $ frame ! $ done !;
     post = λ α β γ γ′ v. leaves 𝓤 H A J R Wn b b′ W (out .answer) (out .joint) (out .states) α β γ γ′ v
-        (JointSim × (Unit {0} × (List BodyState × (Unit {0} × Unit {0})))) (λ z. z .0) (λ z. z .1 .1 .0) (lasts callee-ended (handed α β γ γ′ .0 .0) (handed α β γ γ′ .0 .3))
+        (JointSim × (Unit {0} × (List BodyState × (Unit {0} × Unit {0})))) (λ z. z .0) (λ z. z .1 .1 .0)
+        (lasts callee-ended (handed α β γ γ′ .0 .0) (handed α β γ γ′ .0 .3))
         (λ r z. Leaves out r (z .0) (z .1 .1 .0)) (λ z. qed W (‵ (lasts callee-ended (handed α β γ γ′ .0 .0) (handed α β γ γ′ .0 .3) z) ∷ []) ∵
         fsplit ! $ move ! (1 ∷ []) $ fsplit ! $ move ! (1 ∷ []) $ fsplit ! $ fsplit ! $ keep ! (4 ∷ 0 ∷ []) $ done !) (λ r z e. e);
   }
@@ -167,7 +169,8 @@ module _ {M : Type 1} (𝓤 : URA M) (H : Heap 𝓤) (A : Atoms 𝓤) (W : Given
     (none-is : vstruct (ofList (vint w32 0 ∷ vint w32 0 ∷ [])) ≡ w .val (after 0 .answer)) (sound : Sound 𝓤 H A W j r w all (after 0))
     (𝓣 : Tables 𝓤 H) (f : Name) (known-count : Triple 𝓤 (𝓣 .C #count) (Count 𝓤 H A mem run))
     (callees : (b b′ i : ℕ) → Callee 𝓤 H A (j .row) (r .row) (w .row) b b′ (𝓣 .C) f
-    (vptr b 0 ∷ x .val ctx ∷ sliceVal (b′, 0) (min k all) ∷ vbool u ∷ []) (after i .joint) (min k all) (take k (after i .states)) (after (suc i) .answer) (after (suc i) .joint) (lent i)) (Post : Val → SProp 𝓤)
+    (vptr b 0 ∷ x .val ctx ∷ sliceVal (b′, 0) (min k all) ∷ vbool u ∷ []) (after i .joint) (min k all) (take k (after i .states))
+    (after (suc i) .answer) (after (suc i) .joint) (lent i)) (Post : Val → SProp 𝓤)
     (result : (i : ℕ) → Sound 𝓤 H A W j r w all (after i) → Fits τ (value 𝓤 H A W j r w all (after i)))
     (exits : (i : ℕ) → Sound 𝓤 H A W j r w all (after i) → i ≡ n → ent 𝓤 (emp 𝓤) (Post (value 𝓤 H A W j r w all (after i)))) where
   abbrev a : Data 𝓤 H A
@@ -181,14 +184,16 @@ module _ {M : Type 1} (𝓤 : URA M) (H : Heap 𝓤) (A : Atoms 𝓤) (W : Given
       alloc1 ! (λ l₃. alloc1 ! (λ l₄. alloc1 ! (λ l₅. alloc1 ! (λ l₆. alloc1 ! (λ l₇. alloc1 ! (λ l₈. alloc1 ! (λ l₉. alloc1 ! (λ l₁₀. alloc1 ! (λ l₁₁.
       alloc1 ! (λ l₁₂. alloc1 ! (λ l₁₃. alloc1 ! (λ l₁₄. alloc1 ! (λ l₁₅. alloc0 ! $ params1 ! $ pass1 ! (init ! 40 refl (typed j _ (sound .joint-is))) $
       pass1 ! (init ! 38 refl (typed x ctx x-is)) $ pass1 ! (init ! 36 refl (typed a (after 0 .states) (sound .states-is))) $
-      pass1 ! (init ! 34 refl (tt, record { fits = k-fits })) $ pass1 ! (init ! 32 refl (tt, tt)) $ pass1 ! (init ! 30 refl (tt, record { fits = n-fits })) $ pass0 ! $
+      pass1 ! (init ! 34 refl (tt, record { fits = k-fits })) $ pass1 ! (init ! 32 refl (tt, tt)) $
+      pass1 ! (init ! 30 refl (tt, record { fits = n-fits })) $ pass0 ! $
       -- [_k at 2 · (21 − k)]
       assigns ! (of-opd ! (load ! (from ! (stop !)) (look ! 40 refl))) (from ! (stop !)) (init ! 28 refl (typed j _ (sound .joint-is))) $
       assigns ! (of-opd ! (load ! (from ! (stop !)) (look ! 36 refl))) (from ! (stop !)) (init ! 26 refl (typed a (after 0 .states) (sound .states-is))) $
       calls-count 𝓤 H A mem run W k k-fits ! (fmOf 𝓤 H (W .laws) 𝓣) known-count (and-then ! (load ! (from ! (stop !)) (look ! 35 refl)) (no-more !)) (λ c-fits.
       land ! (from ! (stop !)) (init ! 24 refl (tt, record { fits = c-fits })) $
       assigns ! (agg ! (and-then ! (lit ! tt) (and-then ! (lit ! tt) (no-more !)))) (from ! (stop !))
-      (init ! 22 refl (subst (Fits (w .ty)) (sym none-is) (typed w _ (sound .answer-is)))) $ rewrite ! 22 (λ (v : Val). ‵ (fat fullShare (w .ty) l₄ 0 v)) none-is refl $
+      (init ! 22 refl (subst (Fits (w .ty)) (sym none-is) (typed w _ (sound .answer-is)))) $
+      rewrite ! 22 (λ (v : Val). ‵ (fat fullShare (w .ty) l₄ 0 v)) none-is refl $
       assigns ! (of-opd ! (lit ! tt)) (from ! (stop !)) (init ! 20 refl (tt, record { fits = lit< tt })) $
       move ! (28 ∷ 26 ∷ 22 ∷ 20 ∷ 30 ∷ 24 ∷ 16 ∷ 14 ∷ 12 ∷ 18 ∷ 8 ∷ 6 ∷ 4 ∷ 10 ∷ 2 ∷ 0 ∷ 42 ∷ []) $
       -- [the locals as `Loop.antt` has them; 17 to 32 what frees _21 to _6; _5 to _1 at 33, 35, 37, 39 and 41, each before what frees it; what frees _0]
@@ -241,7 +246,8 @@ module _ {M : Type 1} (𝓤 : URA M) (H : Heap 𝓤) (A : Atoms 𝓤) (W : Given
     ends i e is =
         qed W [] ∵ suffices ! _ (ends-at 𝓤 H A ended stayed (clauses kind 𝓤) W ((tt, tt, tt, passed, vals), tt) (val-l 𝓤 H A W (left i)) (left i)
         (tt, (tt, (tt, (tt, (tt, (tt, tt)))))) (tt, (tt, (tt, (tt, (tt, (tt, tt))))))) $ says ! (ap left e) $ owned ! Lf (Is Lf) (made-l 𝓤 H A) (left i) _ is $
-        nothing ! $ nothing ! $ fjoin ! $ nothing ! $ fjoin ! $ nothing ! $ fjoin ! $ nothing ! $ fjoin ! $ nothing ! $ fjoin ! $ nothing ! $ fjoin ! $ nothing ! $ done !
+        nothing ! $ nothing ! $ fjoin ! $ nothing ! $ fjoin ! $ nothing ! $ fjoin ! $ nothing ! $ fjoin ! $ nothing ! $ fjoin ! $ nothing ! $ fjoin ! $
+        nothing ! $ done !
 
     meets-at : Of js h → Of xs ctx → Of ss ys → k < 2 ^ 64 → n < 2 ^ 64
         → ent 𝓤 (emp 𝓤) (Runs (js .val h ∷ xs .val ctx ∷ ss .val ys ∷ vint w64 k ∷ vbool u ∷ vint w64 n ∷ []) Posted)

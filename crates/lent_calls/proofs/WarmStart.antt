@@ -1,5 +1,5 @@
--- The functions that lend to a warm start: their contract, by the kind, and their MIR, by the callee, and that the one meets the other. The walk takes the types of
--- data, what the calls leave and the callee as variables.
+-- The functions that lend to a warm start: their contract, by the kind, and their MIR, by the callee, and that the one meets the other.
+-- The walk takes the types of data, what the calls leave and the callee as variables.
 -- Assumes nothing.
 use mathlib.Core.Path.{_≡_, refl, sym, ap, subst}
 use mathlib.Core.List.{[], _∷_, List, _++_}
@@ -83,7 +83,8 @@ function f τ j a r w = record {
   lifetimes = 0;
   outlives = [];
   params = 4;
-  locals = local τ valueLocal ∷ local (j .ty) valueLocal ∷ local (a .ty) valueLocal ∷ local (tyInt w64) valueLocal ∷ local (tyInt w64) valueLocal ∷ locals j a r w;
+  locals = local τ valueLocal ∷ local (j .ty) valueLocal ∷ local (a .ty) valueLocal ∷ local (tyInt w64) valueLocal ∷ local (tyInt w64) valueLocal
+      ∷ locals j a r w;
   body = body f args 2 3 4;
 }
 
@@ -110,7 +111,8 @@ callee-clauses kind 𝓤 κs a = record {
 abbrev pub Called : ℕ → {M : Type 1} (𝓤 : URA M) (H : Heap 𝓤) (A : Atoms 𝓤) → Contract 𝓤
 Called kind 𝓤 H A = tripleOf 𝓤 H A (callee-ended .signature) (closing 𝓤 H A callee-ended (callee-clauses kind 𝓤))
 
-module _ {M : Type 1} (𝓤 : URA M) (H : Heap 𝓤) (A : Atoms 𝓤) (W : Given 𝓤 H A) (kind : ℕ) (C : Calls 𝓤 H) (f : Name) (known : Triple 𝓤 (C f) (Called kind 𝓤 H A))
+module _ {M : Type 1} (𝓤 : URA M) (H : Heap 𝓤) (A : Atoms 𝓤) (W : Given 𝓤 H A) (kind : ℕ) (C : Calls 𝓤 H) (f : Name)
+    (known : Triple 𝓤 (C f) (Called kind 𝓤 H A))
     (b b′ : ℕ) (h : JointSim) (m : ℕ) (zs : List BodyState) where
   abbrev out : Outcome
   out = directCall (warmStart kind) h zs
@@ -169,7 +171,8 @@ module _ {M : Type 1} (𝓤 : URA M) (H : Heap 𝓤) (A : Atoms 𝓤) (W : Given
       calls-count 𝓤 H A mem run W k k-fits ! (fmOf 𝓤 H (W .laws) 𝓣) known-count (and-then ! (load ! (from ! (stop !)) (look ! 33 refl)) (no-more !)) (λ c-fits.
       land ! (from ! (stop !)) (init ! 24 refl (tt, record { fits = c-fits })) $
       assigns ! (agg ! (and-then ! (lit ! tt) (and-then ! (lit ! tt) (no-more !)))) (from ! (stop !))
-      (init ! 22 refl (subst (Fits (w .ty)) (sym none-is) (typed w _ (sound .answer-is)))) $ rewrite ! 22 (λ (v : Val). ‵ (fat fullShare (w .ty) l₄ 0 v)) none-is refl $
+      (init ! 22 refl (subst (Fits (w .ty)) (sym none-is) (typed w _ (sound .answer-is)))) $
+      rewrite ! 22 (λ (v : Val). ‵ (fat fullShare (w .ty) l₄ 0 v)) none-is refl $
       assigns ! (of-opd ! (lit ! tt)) (from ! (stop !)) (init ! 20 refl (tt, record { fits = lit< tt })) $
       move ! (28 ∷ 26 ∷ 22 ∷ 20 ∷ 30 ∷ 24 ∷ 16 ∷ 14 ∷ 12 ∷ 18 ∷ 8 ∷ 6 ∷ 4 ∷ 10 ∷ 2 ∷ 0 ∷ 38 ∷ []) $
       -- [the locals as `Loop.antt` has them; 17 to 32 what frees _19 to _4; _3, _2 and _1 at 33, 35 and 37, each before what frees it; what frees _0]

@@ -9,7 +9,8 @@ use Rattle.direct.specs.declared.call.Call.{Call}
 use Rattle.direct.specs.Direct.{directCall}
 use Rattle.lent_calls.specs.Lent.{beside, lentCalls}
 
-pub one-call : (call : Call) (joint : JointSim) (lent rest : List BodyState) → lentCalls call joint (lent ++ rest) (length lent) 1 ≡ beside rest (directCall call joint lent)
+pub one-call : (call : Call) (joint : JointSim) (lent rest : List BodyState)
+    → lentCalls call joint (lent ++ rest) (length lent) 1 ≡ beside rest (directCall call joint lent)
 unfolding lentCalls
 one-call call joint lent rest =
     ap (λ (l : List BodyState). beside l (directCall call joint (take (length lent) (lent ++ rest)))) (drop-at lent rest (length lent) refl)
