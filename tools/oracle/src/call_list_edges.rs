@@ -1,6 +1,7 @@
 //! The fixed cases at document 01's edges of a run: counts, lengths, indices, slots, stages, several
-//! causes at once, shared bodies, and what still means.
+//! causes at once, shared bodies, what still means; and what `aims` brings joints to.
 
+use crate::aims::Aim;
 use crate::body::body_flags::DYNAMIC_FLAG;
 use crate::call_list_scenes::{tame, Link};
 use crate::call_lists::case;
@@ -30,7 +31,8 @@ pub fn write(list: &mut List) -> Step {
     flags(random, list)?;
     empty_lists(random, list)?;
     still(random, list)?;
-    whole(random, list)
+    whole(random, list)?;
+    aims(random, list)
 }
 
 /// A scene of dynamic bodies that move, with these joints.
@@ -289,4 +291,20 @@ fn whole(random: &mut Random, list: &mut List) -> Step {
     scene.joint_count = 2;
     case(&scene, &STEP, list)?;
     case(&scene, &[0, 0, 1, 0], list)
+}
+
+/// Lists of joints that are brought to the rare places: one solve, with bias or without as it shows
+/// there, and some more.
+fn aims(random: &mut Random, list: &mut List) -> Step {
+    for kind in KINDS {
+        for aim in Aim::all(kind) {
+            let stage = if aim.bias() == Some(false) { 2 } else { 1 };
+            for calls in [&[0, stage][..], &[0, 0, 0, stage, 0, 1, 0, stage]] {
+                let mut scene = pair(random, kind);
+                aim.take(random, &mut scene.joints[0], &scene.states);
+                case(&scene, calls, list)?;
+            }
+        }
+    }
+    Ok(())
 }

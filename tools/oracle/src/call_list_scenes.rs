@@ -1,5 +1,6 @@
 //! How a scene of many joints and a call list for it are drawn.
 
+use crate::aims::Aim;
 use crate::body::{body_flags::DYNAMIC_FLAG, BodyState};
 use crate::call_lists::visit_scene;
 use crate::cases::Random;
@@ -8,7 +9,7 @@ use crate::direct::spoil_joint;
 use crate::joint::JointSim;
 use crate::math_functions::MAT3_ZERO;
 use crate::plain_run::{Scene, LIST_BYTES, PLACES};
-use crate::records::{visit_joint, BodyRecord, Kind, JOINT_TYPES, KINDS};
+use crate::records::{kind_of, visit_joint, BodyRecord, Kind, JOINT_TYPES, KINDS};
 use crate::scene::{self, changed, changer, choose, vector, WILD};
 use crate::solver::StepContext;
 
@@ -86,7 +87,8 @@ fn drawn(random: &mut Random) -> Scene {
     let (flags, links) = outline(random);
     let mut scene = tame(random, &flags, &links);
     match random.below(16) {
-        0..=11 => {}
+        0..=8 => {}
+        9..=11 => aim_joints(random, &mut scene),
         12 | 13 => visit_scene(&mut scene, &mut changer(random, 256, changed)),
         _ => {
             let wild = choose(random, &WILD);
@@ -108,6 +110,17 @@ fn drawn(random: &mut Random) -> Scene {
         }
     }
     scene
+}
+
+/// Brings about half of the joints to places where their solves decide.
+fn aim_joints(random: &mut Random, scene: &mut Scene) {
+    for joint in &mut scene.joints {
+        let kind = kind_of(joint).expect("a joint of a kind");
+        if random.one_in(2) {
+            let aim = choose(random, Aim::all(kind));
+            aim.take(random, joint, &scene.states);
+        }
+    }
 }
 
 /// The flags of the bodies, and the links of the joints: any, or a chain.
@@ -251,7 +264,10 @@ fn spoil_call(random: &mut Random, scene: &mut Scene, calls: &mut [u8]) {
     match random.below(8) {
         0 => calls[stage] = 3,
         1 => calls[stage] = 3 + random.below(253) as u8,
-        2 => calls[slot] = scene.joint_count as u8,
+        2 => {
+            calls[slot] = scene.joint_count as u8;
+            calls[stage] += random.below(4) as u8;
+        }
         3 => calls[slot] = (scene.joint_count + random.below(256 - scene.joint_count)) as u8,
         _ => spoil_joint(random, joint, bodies),
     }

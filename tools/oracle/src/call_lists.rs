@@ -12,9 +12,6 @@ use crate::words::{read_all, write_all, Words};
 /// The number of the function that runs a list.
 const RUN_LIST: u32 = 0xa0;
 
-/// A case with its header is at most this many words.
-const CASE_WORDS: usize = 16384;
-
 /// The words of a scene and a list.
 fn inputs(scene: &Scene, calls: &[u8]) -> Vec<u32> {
     let mut words = vec![scene.joint_count, scene.body_count];
@@ -39,9 +36,8 @@ fn write_places(scene: &Scene, to: &mut Vec<u32>) {
     write_all(&scene.states, to);
 }
 
-/// The scene and the list of a case's words.
-fn read(mut inputs: &[u32]) -> (Scene, Vec<u8>) {
-    let from = &mut inputs;
+/// Takes a scene and a list off the front of `from`.
+fn read(from: &mut &[u32]) -> (Scene, Vec<u8>) {
     let [joint_count, body_count, joints, states, length] = [0; 5].map(|_| u32::read(from));
     let scene = Scene {
         joint_count,
@@ -51,7 +47,6 @@ fn read(mut inputs: &[u32]) -> (Scene, Vec<u8>) {
         states: read_all::<BodyState>(states, from),
     };
     let words: Vec<u32> = read_all(length.div_ceil(4), from);
-    assert!(from.is_empty(), "too many words");
     let mut calls: Vec<u8> = words.into_iter().flat_map(u32::to_le_bytes).collect();
     calls.truncate(length as usize);
     (scene, calls)
@@ -80,11 +75,19 @@ pub fn visit_scene(scene: &mut Scene, visit: &mut dyn FnMut(&mut f32)) {
 
 /// Writes the case of a list in a scene. The scene that runs is the one that the words give.
 pub fn case(scene: &Scene, calls: &[u8], list: &mut List) -> Step {
-    let inputs = inputs(scene, calls);
-    let (mut scene, calls) = read(&inputs);
-    let answer = answer_words(&scene.run(&calls), &scene);
-    assert!(1 + inputs.len() + answer.len() <= CASE_WORDS);
-    list.case(RUN_LIST, &inputs, &answer)
+    list.asked(RUN_LIST, &inputs(scene, calls), answer)
+}
+
+/// Takes a scene and a list off the front of `from`, and runs the list.
+fn answer(from: &mut &[u32]) -> Vec<u32> {
+    let (mut scene, calls) = read(from);
+    let answer = scene.run(&calls);
+    answer_words(&answer, &scene)
+}
+
+/// What the run answers to the inputs that it takes off the front of `from`.
+pub fn again(number: u32, from: &mut &[u32]) -> Option<Vec<u32>> {
+    (number == RUN_LIST).then(|| answer(from))
 }
 
 /// Writes the list cases of a seed: a fixed part that is the same for all seeds, then seeded cases

@@ -13,6 +13,9 @@ pub enum End {
 /// What the writing of a case gives: go on, or stop.
 pub type Step = Result<(), End>;
 
+/// A case with its header is at most this many words.
+const CASE_WORDS: usize = 16384;
+
 /// Words are handed on in portions of about this many.
 const PORTION: usize = 1 << 16;
 
@@ -54,6 +57,20 @@ impl List {
             self.flush().map_err(End::Output)?;
         }
         Ok(())
+    }
+
+    /// Writes a case whose answer is to be had from the inputs alone, all of which it must take.
+    pub fn asked(
+        &mut self,
+        function: u32,
+        inputs: &[u32],
+        ask: impl FnOnce(&mut &[u32]) -> Vec<u32>,
+    ) -> Step {
+        let mut rest = inputs;
+        let answer = ask(&mut rest);
+        assert!(rest.is_empty(), "too many words");
+        assert!(1 + inputs.len() + answer.len() <= CASE_WORDS);
+        self.case(function, inputs, &answer)
     }
 
     /// Hands on what is still held back.

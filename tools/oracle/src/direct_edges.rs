@@ -1,19 +1,18 @@
 //! The fixed cases at document 01's edges of the direct calls: cases of the joint, indices, counts
-//! of bodies, flags.
+//! of bodies, flags, long slices; and what `aims` brings joints to.
 
+use crate::aims::Aim;
 use crate::body::body_flags::DYNAMIC_FLAG;
 use crate::cases::{List, Random, Step};
 use crate::core::NULL_INDEX;
-use crate::direct::{case, other_kind, CALLS};
-use crate::records::{joint_type, set_indices, Kind, EMPTY, KINDS};
+use crate::direct::{case, lengthen, other_kind, Call, CALLS, MOST_STATES};
+use crate::records::{joint_type, set_indices, EMPTY, KINDS};
 use crate::scene::Scene;
 use crate::stage_edges::two_bodies;
 use crate::stages::Stage;
 
 /// Flags that are not dynamic, the first three, and flags that are.
 pub const FLAGS: [u32; 4] = [0, 0x2000, 0xffff_efff, 0xffff_ffff];
-
-type Call = (u32, Stage, Kind);
 
 /// Writes all of them. What a case does not set is drawn, the same for all seeds.
 pub fn write(list: &mut List) -> Step {
@@ -24,6 +23,8 @@ pub fn write(list: &mut List) -> Step {
         joint_cases(random, call, list)?;
         no_bodies(random, call, list)?;
         flags(random, call, list)?;
+        long_slices(random, call, list)?;
+        aims(random, call, list)?;
     }
     Ok(())
 }
@@ -107,6 +108,43 @@ fn flags(random: &mut Random, call: Call, list: &mut List) -> Step {
             let mut scene = moving(random, call);
             scene.states[0].flags = a;
             scene.states[1].flags = b;
+            case(call, &scene, list)?;
+        }
+    }
+    Ok(())
+}
+
+/// Slices longer than a scene's, with indices at their ends and beyond.
+fn long_slices(random: &mut Random, call: Call, list: &mut List) -> Step {
+    let most = MOST_STATES as i32;
+    let far = i32::MAX;
+    for (count, indices) in [
+        (4, [3, 1]),
+        (32, [31, 32]),
+        (33, [32, 0]),
+        (most, [0, most - 1]),
+        (most, [most - 1, most - 1]),
+        (most, [most, 1]),
+        (most, [1, far]),
+    ] {
+        let mut scene = moving(random, call);
+        lengthen(random, &mut scene, count as usize);
+        set_indices(&mut scene.joint, indices);
+        case(call, &scene, list)?;
+    }
+    Ok(())
+}
+
+/// Solves of joints that are brought to the rare places.
+fn aims(random: &mut Random, call: Call, list: &mut List) -> Step {
+    let (_, stage, called) = call;
+    if stage != Stage::Solve {
+        return Ok(());
+    }
+    for aim in Aim::all(called) {
+        for _ in 0..2 {
+            let mut scene = moving(random, call);
+            scene.aim(random, *aim);
             case(call, &scene, list)?;
         }
     }

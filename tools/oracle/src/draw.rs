@@ -1,6 +1,6 @@
 //! How inputs are drawn for parameters of given shapes.
 
-use crate::cases::{Random, PALETTE};
+use crate::cases::{Random, MINUS_ZERO, NAN, ONE, PALETTE, PLUS_ZERO};
 use crate::words::{Parameter, Shape};
 
 const SIGN: u32 = 0x8000_0000;
@@ -9,16 +9,23 @@ const SIGN: u32 = 0x8000_0000;
 pub fn inputs(random: &mut Random, shapes: &[Shape], words: &mut Vec<u32>) {
     words.clear();
     let count: usize = shapes.iter().map(|shape| shape.count()).sum();
-    match random.below(8) {
-        0 => words.extend((0..count).map(|_| pattern(random))),
-        1 => words.extend((0..count).map(|_| random.word())),
-        2 | 3 => words.extend((0..count).map(|_| tame(random))),
-        4 | 5 => sound(random, shapes, words),
+    match random.below(16) {
+        0 => words.extend((0..count).map(|_| zero(random))),
+        1 => words.extend((0..count).map(|_| pattern(random))),
+        2 | 3 => words.extend((0..count).map(|_| random.word())),
+        4..=7 => words.extend((0..count).map(|_| tame(random))),
+        8..=11 => sound(random, shapes, words),
         _ => mixed(random, shapes, words),
     }
     if random.one_in(8) {
         repeat_word(random, words);
     }
+}
+
+/// A zero of either sign, mostly: comparisons take both for one.
+fn zero(random: &mut Random) -> u32 {
+    let words = [PLUS_ZERO, MINUS_ZERO, PLUS_ZERO, MINUS_ZERO, ONE, NAN];
+    words[random.below(words.len() as u32) as usize]
 }
 
 /// One of the palette.

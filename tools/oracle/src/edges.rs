@@ -246,17 +246,19 @@ fn without_inverse2() -> [Mat2; 8] {
 fn lengths(list: &mut List) -> Step {
     for target in targets() {
         for place in 0..3 {
-            let vector = with_squared_length(target, place);
-            Leaf::named("normalize").case(&bits(&vector), list)?;
+            for first in [1, 20, 40, 60, 80, 100, 120, 140] {
+                let vector = with_squared_length(target, place, first);
+                Leaf::named("normalize").case(&bits(&vector), list)?;
+            }
         }
     }
     Ok(())
 }
 
 /// A vector with exactly this squared length as the Rust computes it. The squares of the long side
-/// alone miss most values, so short sides are tried until one is hit.
-fn with_squared_length(target: f32, place: usize) -> [f32; 3] {
-    for attempt in 1..200 {
+/// alone miss most values, so short sides are tried until one is hit, from the `first` on.
+fn with_squared_length(target: f32, place: usize, first: u32) -> [f32; 3] {
+    for attempt in first..first + 200 {
         let short = attempt as f32 * power(-66);
         let vector = |long| {
             let mut vector = [short; 3];

@@ -159,6 +159,16 @@ impl Leaf {
     }
 }
 
+/// What the leaf of a number answers to the inputs that it takes off the front of `from`.
+pub fn again(number: u32, from: &mut &[u32]) -> Option<Vec<u32>> {
+    let leaf = LEAVES.iter().find(|leaf| leaf.number == number)?;
+    let (inputs, rest) = from.split_at(leaf.count());
+    *from = rest;
+    let mut answer = Vec::new();
+    (leaf.call)(inputs, &mut answer);
+    Some(answer)
+}
+
 /// Writes the leaf cases of a seed: a fixed part that is the same for all seeds, then seeded cases
 /// without end.
 pub fn write(seed: u64, list: &mut List) -> Step {

@@ -1,6 +1,8 @@
 //! Writes lists of test cases: which function, the input words, the words that the published Rust
 //! answered. See README.md.
 
+mod again;
+mod aims;
 mod call_list_edges;
 mod call_list_scenes;
 mod call_lists;
@@ -16,6 +18,8 @@ mod reorder;
 mod scene;
 mod stage_edges;
 mod stages;
+mod value_edges;
+mod values;
 mod words;
 
 include!("published.rs");
@@ -31,6 +35,7 @@ const GROUPS: &[(&str, fn(u64, &mut List) -> Step)] = &[
     ("STAGES", stages::write),
     ("DIRECT", direct::write),
     ("LISTS", call_lists::write),
+    ("VALUES", values::write),
 ];
 
 /// What the command line asks for.
@@ -40,11 +45,14 @@ enum Task {
     AllRoots,
     /// The seed, and how many scenes.
     Reorder(u64, u64),
+    /// The cases of standard input, answered again.
+    Again,
 }
 
 fn parse(arguments: &[String]) -> Option<Task> {
     match arguments {
         [word] if word == "all-sqrt" => Some(Task::AllRoots),
+        [word] if word == "again" => Some(Task::Again),
         [word, seed, count] if word == "reorder" => {
             Some(Task::Reorder(seed.parse().ok()?, count.parse().ok()?))
         }
@@ -66,6 +74,7 @@ fn write(task: Task) -> io::Result<()> {
         }
         Task::AllRoots => list.group(1 << 32, leaves::write_all_roots)?,
         Task::Reorder(seed, count) => write_reordered(seed, count, &mut list)?,
+        Task::Again => print_again()?,
     }
     list.flush()
 }
@@ -83,12 +92,20 @@ fn write_reordered(seed: u64, count: u64, list: &mut List) -> io::Result<()> {
     Ok(())
 }
 
+/// Prints a line for each function: its number, how many cases there are, how many differ.
+fn print_again() -> io::Result<()> {
+    for (function, [run, differing]) in again::count(io::stdin().lock())? {
+        println!("{function:#x} {run} {differing}");
+    }
+    Ok(())
+}
+
 fn main() -> ExitCode {
     let arguments: Vec<String> = std::env::args().skip(1).collect();
     let Some(task) = parse(&arguments) else {
         let groups: Vec<&str> = GROUPS.iter().map(|(name, _)| *name).collect();
         eprintln!(
-            "usage: oracle SEED {} | oracle all-sqrt | oracle reorder SEED COUNT",
+            "usage: oracle SEED {} | oracle all-sqrt | oracle reorder SEED COUNT | oracle again",
             groups.join(" ")
         );
         return ExitCode::from(2);
@@ -98,7 +115,7 @@ fn main() -> ExitCode {
         // Who reads has read enough.
         Err(error) if error.kind() == ErrorKind::BrokenPipe => ExitCode::SUCCESS,
         Err(error) => {
-            eprintln!("The list cannot be written: {error}.");
+            eprintln!("The list cannot be written or read: {error}.");
             ExitCode::FAILURE
         }
     }

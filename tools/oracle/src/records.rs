@@ -248,6 +248,66 @@ pub fn sides(joint: &mut JointSim) -> [(&mut i32, &mut Transform); 2] {
     ], empty => unreachable!("the empty case has no sides"))
 }
 
+/// A limit of a joint.
+pub struct Limit<'a> {
+    pub enabled: &'a mut bool,
+    pub angle: &'a mut f32,
+    pub impulse: &'a mut f32,
+    pub mass: &'a mut f32,
+}
+
+/// How many limits a joint of the kind has.
+pub fn limit_count(kind: Kind) -> usize {
+    match kind {
+        Kind::Revolute => 2,
+        Kind::Spherical => 3,
+        Kind::Weld => 0,
+    }
+}
+
+/// A limit of a joint: the lower one, the upper one, and as the third the cone.
+pub fn limit(joint: &mut JointSim, n: usize) -> Limit<'_> {
+    let (enabled, angle, impulse, mass) = match (&mut joint.union_, n) {
+        (JointUnion::Revolute(j), 0) => (
+            &mut j.enable_limit,
+            &mut j.lower_angle,
+            &mut j.lower_impulse,
+            &mut j.axial_mass,
+        ),
+        (JointUnion::Revolute(j), 1) => (
+            &mut j.enable_limit,
+            &mut j.upper_angle,
+            &mut j.upper_impulse,
+            &mut j.axial_mass,
+        ),
+        (JointUnion::Spherical(j), 0) => (
+            &mut j.enable_twist_limit,
+            &mut j.lower_twist_angle,
+            &mut j.lower_twist_impulse,
+            &mut j.twist_mass,
+        ),
+        (JointUnion::Spherical(j), 1) => (
+            &mut j.enable_twist_limit,
+            &mut j.upper_twist_angle,
+            &mut j.upper_twist_impulse,
+            &mut j.twist_mass,
+        ),
+        (JointUnion::Spherical(j), 2) => (
+            &mut j.enable_cone_limit,
+            &mut j.cone_angle,
+            &mut j.swing_impulse,
+            &mut j.swing_mass,
+        ),
+        _ => unreachable!("the joint has no such limit"),
+    };
+    Limit {
+        enabled,
+        angle,
+        impulse,
+        mass,
+    }
+}
+
 /// The indices of a joint's two states.
 pub fn indices(joint: &JointSim) -> [i32; 2] {
     let mut joint = *joint;

@@ -1,5 +1,6 @@
 //! How the inputs of a stage are drawn: a step, two bodies, a joint between them, their states.
 
+use crate::aims::Aim;
 use crate::body::{body_flags::DYNAMIC_FLAG, BodyState};
 use crate::cases::Random;
 use crate::core::NULL_INDEX;
@@ -33,6 +34,10 @@ impl Scene {
     pub fn drawn(random: &mut Random, stage: Stage, kind: Kind) -> Scene {
         let mut scene = Scene::tame(random, stage, kind);
         match random.below(16) {
+            0 | 1 if stage == Stage::Solve => {
+                let aim = choose(random, Aim::all(kind));
+                scene.aim(random, aim);
+            }
             0..=7 => {}
             8..=12 => {
                 let rate = 16 << random.below(4);
@@ -101,6 +106,12 @@ impl Scene {
         scene.prepare();
         scene.place(random, indices);
         scene
+    }
+
+    /// Brings the joint to a place where its solve decides.
+    pub fn aim(&mut self, random: &mut Random, aim: Aim) {
+        aim.take(random, &mut self.joint, &self.states);
+        self.use_bias = aim.bias().unwrap_or(self.use_bias);
     }
 
     /// Two bodies at one place are the same body.
@@ -189,14 +200,7 @@ impl Scene {
 
     /// The rotation of frame B as frame A sees it, the way solve computes it.
     pub fn relative_rotation(&self) -> Quat {
-        let mut joint = self.joint;
-        let [a, b] = sides(&mut joint).map(|(index, frame)| {
-            let turned = match *index {
-                NULL_INDEX => QUAT_IDENTITY,
-                index => self.states[index as usize].delta_rotation,
-            };
-            mul_quat(turned, frame.q)
-        });
+        let [a, b] = rotations(&self.joint, &self.states);
         inv_mul_quat(a, b)
     }
 
@@ -246,6 +250,18 @@ impl Scene {
             self.joint.body_id_b = random.word() as i32;
         }
     }
+}
+
+/// The rotations of a joint's two frames, the way solve computes them.
+pub fn rotations(joint: &JointSim, states: &[BodyState]) -> [Quat; 2] {
+    let mut joint = *joint;
+    sides(&mut joint).map(|(index, frame)| {
+        let turned = match *index {
+            NULL_INDEX => QUAT_IDENTITY,
+            index => states[index as usize].delta_rotation,
+        };
+        mul_quat(turned, frame.q)
+    })
 }
 
 /// What a float is changed to.
@@ -311,7 +327,7 @@ fn number(random: &mut Random, low: i32, high: i32) -> f32 {
 }
 
 /// As `number`, above zero.
-fn positive(random: &mut Random, low: i32, high: i32) -> f32 {
+pub fn positive(random: &mut Random, low: i32, high: i32) -> f32 {
     (random.power(low, high) * (1.5 + 0.5 * random.even())) as f32
 }
 

@@ -1,14 +1,15 @@
 //! The fixed cases at the places where the stages decide: determinants at the threshold, the hertz
-//! of no spring, axes along each other, the polarity of quaternions, angles at their limits.
+//! of no spring, axes along each other, the polarity of quaternions, angles at their limits, and what
+//! `aims` brings joints to.
 
+use crate::aims::Aim;
 use crate::body::body_flags::DYNAMIC_FLAG;
 use crate::cases::{List, Random, Step};
 use crate::edges;
-use crate::joint::JointUnion;
 use crate::math_functions::{
     get_swing_angle, get_twist_angle, Quat, Vec3, QUAT_IDENTITY, VEC3_AXIS_Z,
 };
-use crate::records::{one_body, sides, Kind, KINDS};
+use crate::records::{limit, limit_count, one_body, sides, Kind, KINDS};
 use crate::scene::{Scene, HALF_TURN_X, HALF_TURN_Y};
 use crate::solver_set::AWAKE_SET;
 use crate::stages::{case, Stage};
@@ -24,7 +25,8 @@ pub fn write(list: &mut List) -> Step {
         polarities(random, kind, list)?;
     }
     axes(random, list)?;
-    limits(random, list)
+    limits(random, list)?;
+    aims(random, list)
 }
 
 /// A tame scene of two bodies: two different ones, and for solve both awake and dynamic.
@@ -118,8 +120,8 @@ fn polarities(random: &mut Random, kind: Kind, list: &mut List) -> Step {
 
 /// Solve with one of the angles at its limit, or a little to either side of it.
 fn limits(random: &mut Random, list: &mut List) -> Step {
-    for (kind, count) in [(Kind::Revolute, 2), (Kind::Spherical, 3)] {
-        for limit in 0..count {
+    for kind in KINDS {
+        for limit in 0..limit_count(kind) {
             for side in [-f32::EPSILON, 0.0, f32::EPSILON] {
                 for use_bias in SWITCH {
                     let mut scene = two_bodies(random, Stage::Solve, kind);
@@ -136,28 +138,31 @@ fn limits(random: &mut Random, list: &mut List) -> Step {
 
 /// Turns the limits on, and sets one of them to a multiple of the angle. Its impulse is so large
 /// that most solves leave some of it, or they would look alike.
-fn set_limit(scene: &mut Scene, limit: u32, factor: f32) {
+fn set_limit(scene: &mut Scene, n: usize, factor: f32) {
     let rotation = scene.relative_rotation();
-    let twist = factor * get_twist_angle(rotation);
-    let swing = factor * get_swing_angle(rotation);
-    let impulse = 100.0;
-    match &mut scene.joint.union_ {
-        JointUnion::Revolute(record) => {
-            record.enable_limit = true;
-            match limit {
-                0 => (record.lower_angle, record.lower_impulse) = (twist, impulse),
-                _ => (record.upper_angle, record.upper_impulse) = (twist, impulse),
-            }
-        }
-        JointUnion::Spherical(record) => {
-            record.enable_twist_limit = true;
-            record.enable_cone_limit = true;
-            match limit {
-                0 => (record.lower_twist_angle, record.lower_twist_impulse) = (twist, impulse),
-                1 => (record.upper_twist_angle, record.upper_twist_impulse) = (twist, impulse),
-                _ => (record.cone_angle, record.swing_impulse) = (swing, impulse),
-            }
-        }
-        _ => unreachable!(),
+    let angle = match n {
+        0 | 1 => get_twist_angle(rotation),
+        _ => get_swing_angle(rotation),
+    };
+    for other in 0..limit_count(scene.kind) {
+        *limit(&mut scene.joint, other).enabled = true;
     }
+    let limit = limit(&mut scene.joint, n);
+    *limit.angle = factor * angle;
+    *limit.impulse = 100.0;
+}
+
+/// Solve of joints that are brought to the rare places.
+fn aims(random: &mut Random, list: &mut List) -> Step {
+    for kind in KINDS {
+        for aim in Aim::all(kind) {
+            for use_bias in SWITCH {
+                let mut scene = two_bodies(random, Stage::Solve, kind);
+                scene.use_bias = use_bias;
+                scene.aim(random, *aim);
+                case(Stage::Solve, &scene, list)?;
+            }
+        }
+    }
+    Ok(())
 }

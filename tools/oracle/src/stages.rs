@@ -90,9 +90,8 @@ pub fn inputs(stage: Stage, scene: &Scene) -> Vec<u32> {
     words
 }
 
-/// Asks the Rust.
-pub fn answer(stage: Stage, kind: Kind, mut inputs: &[u32]) -> Vec<u32> {
-    let from = &mut inputs;
+/// Takes the inputs of a stage off the front of `from` and asks the Rust.
+pub fn answer(stage: Stage, kind: Kind, from: &mut &[u32]) -> Vec<u32> {
     let mut joint = read_joint(kind, from);
     let mut states = Vec::new();
     match stage {
@@ -112,7 +111,6 @@ pub fn answer(stage: Stage, kind: Kind, mut inputs: &[u32]) -> Vec<u32> {
             solve(kind, &mut joint, &context, use_bias, &mut states);
         }
     }
-    assert!(from.is_empty(), "too many words");
     let mut words = Vec::new();
     write_joint(&joint, &mut words);
     write_all(&states, &mut words);
@@ -128,9 +126,15 @@ fn read_states(from: &mut &[u32]) -> Vec<BodyState> {
 pub fn case(stage: Stage, scene: &Scene, list: &mut List) -> Step {
     let row = |(_, s, k): &&(u32, Stage, Kind)| (*s, *k) == (stage, scene.kind);
     let (number, ..) = STAGES.iter().find(row).expect("no such stage");
-    let inputs = inputs(stage, scene);
-    let answer = answer(stage, scene.kind, &inputs);
-    list.case(*number, &inputs, &answer)
+    list.asked(*number, &inputs(stage, scene), |from| {
+        answer(stage, scene.kind, from)
+    })
+}
+
+/// What the stage of a number answers to the inputs that it takes off the front of `from`.
+pub fn again(number: u32, from: &mut &[u32]) -> Option<Vec<u32>> {
+    let (_, stage, kind) = STAGES.iter().find(|(n, ..)| *n == number)?;
+    Some(answer(*stage, *kind, from))
 }
 
 /// Writes the stage cases of a seed: a short fixed part that is the same for all seeds, then seeded

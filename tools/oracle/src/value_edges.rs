@@ -1,0 +1,153 @@
+//! The fixed cases by value at document 01's edges: cases of the joint, indices and flags that no
+//! stage by value reads, impulses about zero, determinants at the threshold; and what `aims` brings
+//! joints to.
+
+use crate::aims::Aim;
+use crate::cases::{
+    List, Random, Step, INFINITY, LEAST, MINUS_INFINITY, MINUS_LEAST, MINUS_ONE, MINUS_ZERO, NAN,
+    ONE, PLUS_ZERO, THRESHOLD,
+};
+use crate::direct::other_kind;
+use crate::direct_edges::FLAGS;
+use crate::edges;
+use crate::joint::JointSim;
+use crate::records::{joint_type, limit, limit_count, set_indices, Kind, EMPTY, KINDS};
+use crate::stage_edges::two_bodies;
+use crate::stages::Stage;
+use crate::values::{case, pair, stop_case, Call, CALLS};
+
+const SWITCH: [bool; 2] = [false, true];
+
+/// Writes all of them. What a case does not set is drawn, the same for all seeds.
+pub fn write(list: &mut List) -> Step {
+    let random = &mut Random::new(0, 9);
+    for kind in KINDS {
+        stops(random, kind, list)?;
+    }
+    for call in CALLS {
+        joint_cases(random, call, list)?;
+        unread(random, call, list)?;
+        aims(random, call, list)?;
+        determinants(random, call, list)?;
+    }
+    Ok(())
+}
+
+/// A joint of the kind whose limits all push.
+fn pushing(random: &mut Random, kind: Kind) -> JointSim {
+    let mut joint = two_bodies(random, Stage::Solve, kind).joint;
+    joint.fixed_rotation = false;
+    for n in 0..limit_count(kind) {
+        let limit = limit(&mut joint, n);
+        *limit.enabled = true;
+        *limit.impulse = 1.0;
+    }
+    joint
+}
+
+/// Impulses about zero.
+const IMPULSES: [u32; 9] = [
+    PLUS_ZERO,
+    MINUS_ZERO,
+    LEAST,
+    MINUS_LEAST,
+    ONE,
+    MINUS_ONE,
+    INFINITY,
+    MINUS_INFINITY,
+    NAN,
+];
+
+/// Stop codes: each impulse about zero, alone and beside others; each limit off; rotation fixed; a
+/// type that is not the kind's; the empty case.
+fn stops(random: &mut Random, kind: Kind, list: &mut List) -> Step {
+    let count = limit_count(kind);
+    for n in 0..count {
+        for others in [0.0, 1.0] {
+            for impulse in IMPULSES.map(f32::from_bits) {
+                let mut joint = pushing(random, kind);
+                for other in 0..count {
+                    *limit(&mut joint, other).impulse = others;
+                }
+                *limit(&mut joint, n).impulse = impulse;
+                stop_case(&joint, list)?;
+            }
+        }
+        let mut joint = pushing(random, kind);
+        *limit(&mut joint, n).enabled = false;
+        stop_case(&joint, list)?;
+    }
+    for fixed_rotation in SWITCH {
+        let mut joint = pushing(random, kind);
+        joint.fixed_rotation = fixed_rotation;
+        joint.type_ = joint_type(other_kind(random, kind));
+        stop_case(&joint, list)?;
+        joint.union_ = EMPTY;
+        stop_case(&joint, list)?;
+    }
+    Ok(())
+}
+
+/// Joints of all cases, and a type that is not the kind's, which decides nothing.
+fn joint_cases(random: &mut Random, call: Call, list: &mut List) -> Step {
+    let (_, stage, called) = call;
+    for kind in KINDS {
+        let mut scene = two_bodies(random, stage, kind);
+        let pair = pair(&scene);
+        case(call, &scene, &pair, list)?;
+        scene.joint.type_ = joint_type(called);
+        if kind == called {
+            scene.joint.type_ = joint_type(other_kind(random, called));
+        }
+        case(call, &scene, &pair, list)?;
+    }
+    let mut scene = two_bodies(random, stage, called);
+    let pair = pair(&scene);
+    scene.joint.union_ = EMPTY;
+    case(call, &scene, &pair, list)
+}
+
+/// Indices that a direct call refuses, and flags: a stage by value reads neither.
+fn unread(random: &mut Random, call: Call, list: &mut List) -> Step {
+    let (_, stage, called) = call;
+    let indices = [[-2, i32::MAX], [i32::MIN, -1], [32, 33], [1, 1]];
+    for (indices, flags) in indices.into_iter().zip(FLAGS) {
+        let mut scene = two_bodies(random, stage, called);
+        for state in &mut scene.states {
+            state.flags = flags;
+        }
+        let pair = pair(&scene);
+        set_indices(&mut scene.joint, indices);
+        case(call, &scene, &pair, list)?;
+    }
+    Ok(())
+}
+
+/// Solves of joints that are brought to the rare places.
+fn aims(random: &mut Random, call: Call, list: &mut List) -> Step {
+    let (_, stage, called) = call;
+    if stage != Stage::Solve {
+        return Ok(());
+    }
+    for aim in Aim::all(called) {
+        let mut scene = two_bodies(random, stage, called);
+        scene.aim(random, *aim);
+        case(call, &scene, &pair(&scene), list)?;
+    }
+    Ok(())
+}
+
+/// Prepare, the sum of the inverse inertias with a determinant at the threshold.
+fn determinants(random: &mut Random, call: Call, list: &mut List) -> Step {
+    let (_, stage, called) = call;
+    if stage != Stage::Prepare {
+        return Ok(());
+    }
+    let threshold = f32::from_bits(THRESHOLD);
+    for sum in edges::with_determinant(threshold).into_iter().step_by(4) {
+        let mut scene = two_bodies(random, stage, called);
+        scene.set_inertia(random, sum);
+        case(call, &scene, &pair(&scene), list)?;
+    }
+    Ok(())
+}

@@ -1,0 +1,184 @@
+"""Wrong versions of what the oracle asks: one edit each, such as a port could make.
+
+An edit is a short piece of the published text, or of the oracle's own text after document 01, and what
+stands in its place. `groups` are those in which the edit has to be noticed.
+"""
+from collections import namedtuple
+
+Version = namedtuple("Version", "name file edit groups")
+
+MATRIX = "math_functions/matrix.rs"
+SCALAR = "math_functions/scalar.rs"
+QUAT = "math_functions/quat.rs"
+VECTOR = "math_functions/vector.rs"
+REVOLUTE = "joint/revolute.rs"
+SPHERICAL = "joint/spherical.rs"
+WELD = "joint/weld.rs"
+
+SOLVES = ("stages", "direct", "lists")
+ALL = ("leaves", *SOLVES)
+LEAF, STAGE, VALUES = ("leaves",), ("stages",), ("values",)
+
+
+class Missed(Exception):
+    """The text is not where the edit expects it."""
+
+
+def index(text, piece, start=0):
+    at = text.find(piece, start)
+    if at < 0:
+        raise Missed(piece)
+    return at
+
+
+def put(behind, old, new):
+    """Puts `new` for the first `old` behind a piece of text."""
+    def edit(text):
+        at = index(text, old, index(text, behind))
+        return text[:at] + new + text[at + len(old):]
+    return edit
+
+
+def exchange(behind, first, second, end):
+    """Exchanges the text from `first` up to `second` with that from there up to `end`."""
+    def edit(text):
+        a = index(text, first, index(text, behind))
+        b = index(text, second, a)
+        c = index(text, end, b)
+        return text[:a] + text[b:c] + text[a:b] + text[c:]
+    return edit
+
+
+def both(*edits):
+    def edit(text):
+        for one in edits:
+            text = one(text)
+        return text
+    return edit
+
+
+THRESHOLD = ("> 1000.0 *", ">= 1000.0 *")
+NAN_GAP = ("if c > 0.0", "if !(c <= 0.0)")
+ZERO_GAP = ("if c > 0.0", "if c >= 0.0")
+FIXED = ("< 1000.0 *", "<= 1000.0 *")
+STORE = ("    if state_a.flags", "    if state_b.flags", "}\n\n")
+LAST_STORE = ("    if state_a.flags", "    if state_b.flags", "}\n")
+R, S, W = ("pub fn solve_%s_joint" % kind for kind in ("revolute", "spherical", "weld"))
+SUBTRACTED = "sub(sub(add(v_b, cross(w_b, r_b)), v_a), cross(w_a, r_a))"
+GROUPED = "sub(add(v_b, cross(w_b, r_b)), add(v_a, cross(w_a, r_a)))"
+LIMITS = (
+    ("revolute, lower limit", REVOLUTE, "let c = angle - joint.lower_angle", "sub(w_b, w_a)", "sub(w_a, w_b)"),
+    ("revolute, upper limit", REVOLUTE, "let c = joint.upper_angle - angle", "sub(w_a, w_b)", "sub(w_b, w_a)"),
+    ("spherical, lower twist", SPHERICAL, "let c = twist_angle", "sub(w_b, w_a)", "sub(w_a, w_b)"),
+    ("spherical, upper twist", SPHERICAL, "- twist_angle", "sub(w_a, w_b)", "sub(w_b, w_a)"),
+    ("spherical, cone", SPHERICAL, "let c = joint.cone_angle", "sub(w_a, w_b)", "sub(w_b, w_a)"),
+)
+SPRING, MOTOR = "    // Solve spring", "    if joint.enable_motor &&"
+LOWER, UPPER = "        // Lower limit", "        // Upper limit"
+POINT = "    // Solve point-to-point"
+ROWS = (
+    ("revolute, motor before spring", REVOLUTE, R, SPRING, MOTOR, "    if joint.enable_limit &&"),
+    ("revolute, limits before motor", REVOLUTE, R, MOTOR, "    if joint.enable_limit &&", "    // Collinearity"),
+    ("revolute, upper before lower", REVOLUTE, R, LOWER, UPPER, "    }\n\n    // Collinearity"),
+    ("revolute, perpendicular before limits", REVOLUTE, R, "    if joint.enable_limit &&", "    // Collinearity", POINT),
+    ("revolute, point before perpendicular", REVOLUTE, R, "    // Collinearity", POINT, "    if state_a.flags"),
+    ("spherical, motor before spring", SPHERICAL, S, SPRING, MOTOR, "    if joint.enable_twist_limit &&"),
+    ("spherical, twist before motor", SPHERICAL, S, MOTOR, "    if joint.enable_twist_limit &&",
+     "    if joint.enable_cone_limit &&"),
+    ("spherical, upper before lower", SPHERICAL, S, LOWER, UPPER, "    }\n\n    if joint.enable_cone_limit &&"),
+    ("spherical, cone before twist", SPHERICAL, S, "    if joint.enable_twist_limit &&",
+     "    if joint.enable_cone_limit &&", POINT),
+    ("spherical, point before cone", SPHERICAL, S, "    if joint.enable_cone_limit &&", POINT, "    if state_a.flags"),
+    ("weld, point before angular", WELD, W, "    // angular constraint", "    // linear constraint",
+     "    if state_a.flags"),
+)
+
+
+def limit_versions(title, pair, groups):
+    for name, file, behind, _, _ in LIMITS:
+        yield Version(f"{name}: {title}", file, put(behind, *pair), groups)
+
+
+def store_versions():
+    for kind, file in (("revolute", REVOLUTE), ("spherical", SPHERICAL), ("weld", WELD)):
+        warm, solve = (f"pub fn {stage}_{kind}_joint" for stage in ("warm_start", "solve"))
+        yield Version(f"{kind}: B stored before A", file,
+                      both(exchange(warm, *STORE), exchange(solve, *LAST_STORE)), ("stages", "direct", "lists"))
+
+
+VERSIONS = [
+    # Places that drawn numbers hardly meet.
+    Version("spherical: second quaternion flipped", SPHERICAL,
+            put(S, "let rel_q = inv_mul_quat(quat_a, quat_b)",
+                "let flip = dot_quat(quat_a, quat_b) < 0.0; "
+                "let rel_q = inv_mul_quat(quat_a, if flip { negate_quat(quat_b) } else { quat_b })"), (*SOLVES, "values")),
+    *limit_versions("NaN gap above zero", NAN_GAP, (*SOLVES, "values")),
+    Version("solve3: threshold with >=", MATRIX, put("pub fn solve3", *THRESHOLD), (*ALL, "values")),
+    Version("solve2: threshold with >=", MATRIX, put("pub fn solve2", *THRESHOLD), (*ALL, "values")),
+    Version("invert_matrix: threshold with >=", MATRIX, put("pub fn invert_matrix", *THRESHOLD), ("leaves", "stages", "values")),
+    Version("revolute: fixed rotation with <=", REVOLUTE, put("let inv_inertia_sum", *FIXED), ("stages", "values")),
+    Version("spherical: fixed rotation with <=", SPHERICAL, put("let inv_inertia_sum", *FIXED), ("stages", "values")),
+    Version("weld: fixed rotation with <=", WELD, put("let inv_inertia_sum", *FIXED), ("stages", "values")),
+    Version("max_float: arguments swapped", SCALAR, put("pub fn max_float", "(a: f32, b: f32)", "(b: f32, a: f32)"), (*ALL, "values")),
+    Version("max_float: with >=", SCALAR, put("pub fn max_float", "a > b", "a >= b"), (*ALL, "values")),
+    # Its callers, atan2 and the tests of determinants, answer alike for both zeros: it shows in the leaf alone.
+    Version("abs_float: sign of -0.0 cleared", SCALAR, put("pub fn abs_float", "a < 0.0", "a.is_sign_negative()"), LEAF),
+    Version("abs_float: with <=", SCALAR, put("pub fn abs_float", "a < 0.0", "a <= 0.0"), LEAF),
+    Version("spherical: motor bound with NaN", SPHERICAL,
+            put(S, "if len > max_impulse", "if !(len <= max_impulse)"), (*SOLVES, "values")),
+    # Document 01's slips.
+    Version("revolute: velocity error grouped", REVOLUTE, put(R, SUBTRACTED, GROUPED), SOLVES),
+    Version("spherical: velocity error grouped", SPHERICAL, put(S, SUBTRACTED, GROUPED), SOLVES),
+    Version("weld: velocity error not grouped", WELD, put(W, GROUPED, SUBTRACTED), SOLVES),
+    Version("spherical: swing impulse added in warm start", SPHERICAL,
+            put("pub fn warm_start_spherical_joint", "mul_sub(angular_impulse", "mul_add(angular_impulse"), SOLVES),
+    Version("revolute: second quaternion not flipped", REVOLUTE,
+            put(R, "dot_quat(quat_a, quat_b) < 0.0", "false"), SOLVES),
+    # Other signs, orders and tests.
+    *(Version(f"{name}: sign of cdot", file, put(behind, old, new), SOLVES) for name, file, behind, old, new in LIMITS),
+    *limit_versions("gap of zero above zero", ZERO_GAP, SOLVES),
+    *(Version(name, file, exchange(*anchors), SOLVES) for name, file, *anchors in ROWS),
+    *store_versions(),
+    Version("weld: stored though not dynamic", WELD,
+            put(W, "state_b.flags & body_flags::DYNAMIC_FLAG != 0", "joint.index_b != NULL_INDEX"), ("stages", "direct", "lists")),
+    Version("solve3: det itself above the threshold", MATRIX, put("pub fn solve3", "abs_float(det)", "det"), ALL),
+    Version("solve2: |det| above the threshold", MATRIX, put("pub fn solve2", "if det >", "if abs_float(det) >"), ("leaves", "stages")),
+    Version("normalize: threshold with >=", VECTOR, put("pub fn normalize", *THRESHOLD), LEAF),
+    Version("clamp_float: NaN becomes the lower bound", SCALAR,
+            put("pub fn clamp_float", "a < lower", "!(a >= lower)"), ALL),
+    Version("atan2: sign of a zero y taken", SCALAR, put("pub fn atan2", "if y < 0.0", "if y.is_sign_negative()"), LEAF),
+    Version("get_twist_angle: polarity with <=", QUAT, put("pub fn get_twist_angle", "q.s < 0.0", "q.s <= 0.0"),
+            ("leaves", "stages")),
+    Version("delta_quat_to_rotation: polarity with <=", QUAT,
+            put("pub fn delta_quat_to_rotation", "< 0.0", "<= 0.0"), ALL),
+    Version("mul_add: fused", VECTOR, put("pub fn mul_add", "a.x + s * b.x", "s.mul_add(b.x, a.x)"), ALL),
+    Version("weld: own point softness at hertz zero", WELD, put(W, "joint.linear_hertz > 0.0", "joint.linear_hertz >= 0.0"),
+            SOLVES),
+    Version("weld: own angular softness at hertz zero", WELD,
+            put(W, "joint.angular_hertz > 0.0", "joint.angular_hertz >= 0.0"), SOLVES),
+    Version("weld: joint's softness below hertz zero", WELD,
+            put("pub fn prepare_weld_joint", "joint.linear_hertz == 0.0", "joint.linear_hertz <= 0.0"), STAGE),
+    Version("spherical: swing stored though its limit is off", SPHERICAL,
+            put("joint.delta_center = delta_center", "if enable_cone_limit", "if true"), STAGE),
+    Version("spherical: rotation mass inverted though fixed", SPHERICAL,
+            put("let rotation_mass", "if !base.fixed_rotation", "if true"), STAGE),
+    # The oracle's own text after document 01.
+    Version("stop code: impulse of zero counts", "values.rs", put("fn stop_code", "impulse > 0.0", "impulse >= 0.0"), VALUES),
+    Version("stop code: NaN impulse counts", "values.rs", put("fn stop_code", "impulse > 0.0", "!(impulse <= 0.0)"), VALUES),
+    Version("stop code: limit that is off counts", "values.rs", put("fn stop_code", "on && impulse", "(on || !on) && impulse"), VALUES),
+    Version("stop code: upper as 1, lower as 2", "values.rs", put("fn stop_code", "lower + 2 * upper", "upper + 2 * lower"), VALUES),
+    Version("stop code: cone by the twist's switch", "values.rs", put("fn stop_code", "j.enable_cone_limit", "j.enable_twist_limit"), VALUES),
+    Version("stop code: fixed rotation counts", "values.rs", put("fn stop_code", "if joint.fixed_rotation", "if false"), VALUES),
+    Version("stop code: empty case not refused", "values.rs", put("fn stop_code", "[WRONG_CASE, 0, 0]", "[0; 3]"), VALUES),
+    Version("by value: wrong case not refused", "values.rs", put("fn answer(", "kind_of(&joint) != Some(called)", "kind_of(&joint).is_none()"), VALUES),
+    Version("by value: refused by its type", "values.rs",
+            put("fn answer(", "kind_of(&joint) != Some(called)",
+                "kind_of(&joint) != Some(called) || joint.type_ != crate::records::joint_type(called)"), VALUES),
+    Version("direct: more than 3 states refused", "direct.rs", put("fn answer(", "&joint, count)", "&joint, count.min(3))"), ("direct",)),
+    Version("direct: more than 32 states refused", "direct.rs", put("fn answer(", "&joint, count)", "&joint, count.min(32))"), ("direct",)),
+    Version("direct: index -1 refused", "plain_run.rs", put("pub fn direct_number", "-1..", "0.."), ("direct", "lists")),
+    Version("direct: second index before the first", "plain_run.rs",
+            put("pub fn direct_number", "let [a, b]", "let [b, a]"), ("direct", "lists")),
+    Version("list: stage before slot", "plain_run.rs",
+            exchange("pub fn call_number", "        if u32::from(slot)", "        if stage > 2", "        // A joint"), ("lists",)),
+]
