@@ -9,7 +9,9 @@ use crate::quat;
 use crate::scalar;
 use crate::soft;
 use crate::stages;
+use crate::stop_codes;
 use crate::transform;
+use crate::values;
 use crate::vector;
 use crate::words::plus;
 use crate::words::word;
@@ -39,6 +41,8 @@ fn agrees(f: u32, p: &[u8]) -> bool {
         8 => stages::agrees(f, p),
         9 => direct_calls::agrees(f, p),
         10 => lists::agrees(f, p),
+        11 => stop_codes::agrees(f, p),
+        12 => values::agrees(f, p),
         _ => false,
     }
 }

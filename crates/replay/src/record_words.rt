@@ -32,14 +32,9 @@ pub const BODY_WORDS: usize = 22;
 
 pub const STATE_WORDS: usize = 14;
 
-// How many words so many states have. A case of one joint has at most 3.
+// How many words so many states have.
 pub fn words_of_states(count: u32) -> usize {
-    match count {
-        0 => 0,
-        1 => STATE_WORDS,
-        2 => 2 * STATE_WORDS,
-        _ => 3 * STATE_WORDS,
-    }
+    count as usize * STATE_WORDS
 }
 
 // A number that no type has reads as the last, which comparing tells from it.

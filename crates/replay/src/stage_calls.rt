@@ -1,5 +1,5 @@
-// The stages of the kinds, called alike. A kind is a number: 0 for the revolute joint, 1 for the
-// spherical one, and else the weld joint.
+// The stages of the kinds, called alike, on a joint of any case. A kind is a number: 0 for the revolute
+// joint, 1 for the spherical one, and else the weld joint.
 use crate::joint_words::joint;
 use crate::joint_words::words_of;
 use crate::record_words::BODY_WORDS;
@@ -25,16 +25,16 @@ use weld::solve_weld_joint;
 use weld::warm_start_weld_joint;
 
 // The body that stands i words behind the joint.
-fn body_at(kind: u32, p: &[u8], i: usize) -> BodyRecord {
-    body(behind(p, plus(words_of(kind), i)))
+fn body_at(case: u32, p: &[u8], i: usize) -> BodyRecord {
+    body(behind(p, plus(words_of(case), i)))
 }
 
 // Prepare takes the joint, the context and the two bodies.
-pub fn prepare(kind: u32, p: &[u8]) -> Prepared {
-    let joint = joint(kind, p);
-    let step = context(behind(p, words_of(kind)));
-    let body_a = body_at(kind, p, CONTEXT_WORDS);
-    let body_b = body_at(kind, p, CONTEXT_WORDS + BODY_WORDS);
+pub fn prepare(kind: u32, case: u32, p: &[u8]) -> Prepared {
+    let joint = joint(case, p);
+    let step = context(behind(p, words_of(case)));
+    let body_a = body_at(case, p, CONTEXT_WORDS);
+    let body_b = body_at(case, p, CONTEXT_WORDS + BODY_WORDS);
     if kind == 0 {
         return prepare_revolute_joint(joint, step, body_a, body_b);
     }
@@ -45,8 +45,8 @@ pub fn prepare(kind: u32, p: &[u8]) -> Prepared {
 }
 
 // Warm start takes the joint and the states of its bodies.
-pub fn warm_start(kind: u32, p: &[u8], pair: StatePair) -> WarmStarted {
-    let joint = joint(kind, p);
+pub fn warm_start(kind: u32, case: u32, p: &[u8], pair: StatePair) -> WarmStarted {
+    let joint = joint(case, p);
     if kind == 0 {
         return warm_start_revolute_joint(joint, pair.state_a, pair.state_b);
     }
@@ -57,8 +57,15 @@ pub fn warm_start(kind: u32, p: &[u8], pair: StatePair) -> WarmStarted {
 }
 
 // Solve takes the joint, the context, a switch and the states of its bodies.
-pub fn solve(kind: u32, p: &[u8], step: StepContext, use_bias: bool, pair: StatePair) -> Solved {
-    let joint = joint(kind, p);
+pub fn solve(
+    kind: u32,
+    case: u32,
+    p: &[u8],
+    step: StepContext,
+    use_bias: bool,
+    pair: StatePair,
+) -> Solved {
+    let joint = joint(case, p);
     if kind == 0 {
         return solve_revolute_joint(joint, step, pair.state_a, pair.state_b, use_bias);
     }

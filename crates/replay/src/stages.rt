@@ -115,7 +115,7 @@ fn is_whole(p: &[u8], parts: Parts, at: Indices) -> bool {
 
 // Whether the stage leaves what the answer has.
 fn is_prepare(kind: u32, p: &[u8], answer: &[u8]) -> bool {
-    let r = prepare(kind, p);
+    let r = prepare(kind, kind, p);
     (r.number == 0) & (r.place == 0) & same_joint(kind, answer, r.joint)
 }
 
@@ -145,7 +145,7 @@ fn same_left(
 
 fn is_warm_start(kind: u32, p: &[u8], parts: Parts, at: Indices) -> bool {
     let pair = states_of(p, parts, at);
-    let r = warm_start(kind, p, pair);
+    let r = warm_start(kind, kind, p, pair);
     (r.number == 0) & (r.place == 0) & same_left(kind, p, parts, at, pair, r.velocities, r.joint)
 }
 
@@ -164,7 +164,7 @@ fn is_solve(
     at: Indices,
 ) -> bool {
     let pair = states_of(p, parts, at);
-    let r = solve(kind, p, step, use_bias, pair);
+    let r = solve(kind, kind, p, step, use_bias, pair);
     (r.number == 0) & (r.place == 0) & same_left(kind, p, parts, at, pair, r.velocities, r.joint)
 }
 

@@ -1,0 +1,140 @@
+// The cases of the stages by value, on a joint of any case.
+//
+// The inputs are the joint behind the number of its case; for prepare the context and two bodies, for
+// a warm start two states, for a solve the context, the switch and two states. The answer is number,
+// place, the joint, and but for prepare the velocities. As in stages.rt, what was read is compared
+// with the words that it was read from too.
+use crate::compare::has_words;
+use crate::compare::is_switch;
+use crate::compare::same_vec3;
+use crate::compare::same_word;
+use crate::joint_words::is_cased_joint;
+use crate::joint_words::same_joint;
+use crate::joint_words::words_of;
+use crate::record_words::BODY_WORDS;
+use crate::record_words::CONTEXT_WORDS;
+use crate::record_words::STATE_WORDS;
+use crate::record_words::context;
+use crate::record_words::same_context;
+use crate::record_words::state;
+use crate::stage_calls::prepare;
+use crate::stage_calls::solve;
+use crate::stage_calls::warm_start;
+use crate::words::behind;
+use crate::words::plus;
+use crate::words::switch;
+use crate::words::word;
+use constraint::velocity::Velocities;
+use joint::store::StatePair;
+use solver::StepContext;
+
+// How many words the velocities of two bodies have.
+const VELOCITY_WORDS: usize = 12;
+
+// Whether the words begin with number and place.
+fn same_numbers(p: &[u8], number: u32, place: u32) -> bool {
+    same_word(p, 0, number) & same_word(p, 1, place)
+}
+
+fn same_velocities(p: &[u8], v: Velocities) -> bool {
+    same_vec3(p, 0, v.v_a)
+        & same_vec3(p, 3, v.w_a)
+        & same_vec3(p, 6, v.v_b)
+        & same_vec3(p, 9, v.w_b)
+}
+
+fn pair_at(p: &[u8]) -> StatePair {
+    StatePair {
+        state_a: state(p),
+        state_b: state(behind(p, STATE_WORDS)),
+    }
+}
+
+// Whether the stage answers what the case says. The words of the joint are p, those of the states and
+// of the answer follow.
+fn is_prepare(kind: u32, case: u32, p: &[u8], answer: &[u8]) -> bool {
+    let r = prepare(kind, case, p);
+    same_numbers(answer, r.number, r.place) & same_joint(case, behind(answer, 2), r.joint)
+}
+
+fn is_warm_start(kind: u32, case: u32, p: &[u8], states: &[u8], answer: &[u8]) -> bool {
+    let r = warm_start(kind, case, p, pair_at(states));
+    same_numbers(answer, r.number, r.place)
+        & same_velocities(behind(answer, plus(2, words_of(case))), r.velocities)
+        & same_joint(case, behind(answer, 2), r.joint)
+}
+
+fn is_solve(
+    kind: u32,
+    case: u32,
+    p: &[u8],
+    step: StepContext,
+    use_bias: bool,
+    states: &[u8],
+    answer: &[u8],
+) -> bool {
+    let r = solve(kind, case, p, step, use_bias, pair_at(states));
+    same_numbers(answer, r.number, r.place)
+        & same_velocities(behind(answer, plus(2, words_of(case))), r.velocities)
+        & same_joint(case, behind(answer, 2), r.joint)
+}
+
+fn agrees_prepare(kind: u32, case: u32, p: &[u8]) -> bool {
+    let words = words_of(case);
+    let step = behind(p, plus(1, words));
+    let answer = 1 + words + CONTEXT_WORDS + 2 * BODY_WORDS;
+    has_words(p, plus(answer, 2 + words))
+        & is_cased_joint(p)
+        & same_context(step, context(step))
+        & is_prepare(kind, case, behind(p, 1), behind(p, answer))
+}
+
+fn agrees_warm_start(kind: u32, case: u32, p: &[u8]) -> bool {
+    let words = words_of(case);
+    let states = 1 + words;
+    let answer = states + 2 * STATE_WORDS;
+    has_words(p, plus(answer, 2 + words + VELOCITY_WORDS))
+        & is_cased_joint(p)
+        & is_warm_start(
+            kind,
+            case,
+            behind(p, 1),
+            behind(p, states),
+            behind(p, answer),
+        )
+}
+
+fn agrees_solve(kind: u32, case: u32, p: &[u8]) -> bool {
+    let words = words_of(case);
+    let step = context(behind(p, plus(1, words)));
+    let bias = 1 + words + CONTEXT_WORDS;
+    let answer = bias + 1 + 2 * STATE_WORDS;
+    has_words(p, plus(answer, 2 + words + VELOCITY_WORDS))
+        & is_cased_joint(p)
+        & same_context(behind(p, plus(1, words)), step)
+        & is_switch(p, bias)
+        & is_solve(
+            kind,
+            case,
+            behind(p, 1),
+            step,
+            switch(p, bias),
+            behind(p, bias + 1),
+            behind(p, answer),
+        )
+}
+
+// The functions are numbered in fours, a kind each, and the fourth is none.
+pub fn agrees(f: u32, p: &[u8]) -> bool {
+    let kind = f % 4;
+    let case = word(p, 0);
+    if kind == 3 {
+        return false;
+    }
+    match f / 4 {
+        0x30 => agrees_prepare(kind, case, p),
+        0x31 => agrees_warm_start(kind, case, p),
+        0x32 => agrees_solve(kind, case, p),
+        _ => false,
+    }
+}
