@@ -17,6 +17,9 @@ WELD = "joint/weld.rs"
 
 SOLVES = ("stages", "direct", "lists")
 ALL = ("leaves", *SOLVES)
+BY_VALUE = (*SOLVES, "values")
+EACH = (*ALL, "values")
+PREPARES = ("stages", "values")
 LEAF, STAGE, VALUES = ("leaves",), ("stages",), ("values",)
 
 
@@ -103,7 +106,7 @@ def store_versions():
     for kind, file in (("revolute", REVOLUTE), ("spherical", SPHERICAL), ("weld", WELD)):
         warm, solve = (f"pub fn {stage}_{kind}_joint" for stage in ("warm_start", "solve"))
         yield Version(f"{kind}: B stored before A", file,
-                      both(exchange(warm, *STORE), exchange(solve, *LAST_STORE)), ("stages", "direct", "lists"))
+                      both(exchange(warm, *STORE), exchange(solve, *LAST_STORE)), SOLVES)
 
 
 VERSIONS = [
@@ -111,21 +114,24 @@ VERSIONS = [
     Version("spherical: second quaternion flipped", SPHERICAL,
             put(S, "let rel_q = inv_mul_quat(quat_a, quat_b)",
                 "let flip = dot_quat(quat_a, quat_b) < 0.0; "
-                "let rel_q = inv_mul_quat(quat_a, if flip { negate_quat(quat_b) } else { quat_b })"), (*SOLVES, "values")),
-    *limit_versions("NaN gap above zero", NAN_GAP, (*SOLVES, "values")),
-    Version("solve3: threshold with >=", MATRIX, put("pub fn solve3", *THRESHOLD), (*ALL, "values")),
-    Version("solve2: threshold with >=", MATRIX, put("pub fn solve2", *THRESHOLD), (*ALL, "values")),
-    Version("invert_matrix: threshold with >=", MATRIX, put("pub fn invert_matrix", *THRESHOLD), ("leaves", "stages", "values")),
-    Version("revolute: fixed rotation with <=", REVOLUTE, put("let inv_inertia_sum", *FIXED), ("stages", "values")),
-    Version("spherical: fixed rotation with <=", SPHERICAL, put("let inv_inertia_sum", *FIXED), ("stages", "values")),
-    Version("weld: fixed rotation with <=", WELD, put("let inv_inertia_sum", *FIXED), ("stages", "values")),
-    Version("max_float: arguments swapped", SCALAR, put("pub fn max_float", "(a: f32, b: f32)", "(b: f32, a: f32)"), (*ALL, "values")),
-    Version("max_float: with >=", SCALAR, put("pub fn max_float", "a > b", "a >= b"), (*ALL, "values")),
+                "let rel_q = inv_mul_quat(quat_a, if flip { negate_quat(quat_b) } else { quat_b })"), BY_VALUE),
+    *limit_versions("NaN gap above zero", NAN_GAP, BY_VALUE),
+    Version("solve3: threshold with >=", MATRIX, put("pub fn solve3", *THRESHOLD), EACH),
+    Version("solve2: threshold with >=", MATRIX, put("pub fn solve2", *THRESHOLD), EACH),
+    Version("invert_matrix: threshold with >=", MATRIX,
+            put("pub fn invert_matrix", *THRESHOLD), ("leaves", *PREPARES)),
+    Version("revolute: fixed rotation with <=", REVOLUTE, put("let inv_inertia_sum", *FIXED), PREPARES),
+    Version("spherical: fixed rotation with <=", SPHERICAL, put("let inv_inertia_sum", *FIXED), PREPARES),
+    Version("weld: fixed rotation with <=", WELD, put("let inv_inertia_sum", *FIXED), PREPARES),
+    Version("max_float: arguments swapped", SCALAR,
+            put("pub fn max_float", "(a: f32, b: f32)", "(b: f32, a: f32)"), EACH),
+    Version("max_float: with >=", SCALAR, put("pub fn max_float", "a > b", "a >= b"), EACH),
     # Its callers, atan2 and the tests of determinants, answer alike for both zeros: it shows in the leaf alone.
-    Version("abs_float: sign of -0.0 cleared", SCALAR, put("pub fn abs_float", "a < 0.0", "a.is_sign_negative()"), LEAF),
+    Version("abs_float: sign of -0.0 cleared", SCALAR,
+            put("pub fn abs_float", "a < 0.0", "a.is_sign_negative()"), LEAF),
     Version("abs_float: with <=", SCALAR, put("pub fn abs_float", "a < 0.0", "a <= 0.0"), LEAF),
     Version("spherical: motor bound with NaN", SPHERICAL,
-            put(S, "if len > max_impulse", "if !(len <= max_impulse)"), (*SOLVES, "values")),
+            put(S, "if len > max_impulse", "if !(len <= max_impulse)"), BY_VALUE),
     # Document 01's slips.
     Version("revolute: velocity error grouped", REVOLUTE, put(R, SUBTRACTED, GROUPED), SOLVES),
     Version("spherical: velocity error grouped", SPHERICAL, put(S, SUBTRACTED, GROUPED), SOLVES),
@@ -140,19 +146,22 @@ VERSIONS = [
     *(Version(name, file, exchange(*anchors), SOLVES) for name, file, *anchors in ROWS),
     *store_versions(),
     Version("weld: stored though not dynamic", WELD,
-            put(W, "state_b.flags & body_flags::DYNAMIC_FLAG != 0", "joint.index_b != NULL_INDEX"), ("stages", "direct", "lists")),
+            put(W, "state_b.flags & body_flags::DYNAMIC_FLAG != 0", "joint.index_b != NULL_INDEX"), SOLVES),
     Version("solve3: det itself above the threshold", MATRIX, put("pub fn solve3", "abs_float(det)", "det"), ALL),
-    Version("solve2: |det| above the threshold", MATRIX, put("pub fn solve2", "if det >", "if abs_float(det) >"), ("leaves", "stages")),
+    Version("solve2: |det| above the threshold", MATRIX,
+            put("pub fn solve2", "if det >", "if abs_float(det) >"), ("leaves", "stages")),
     Version("normalize: threshold with >=", VECTOR, put("pub fn normalize", *THRESHOLD), LEAF),
     Version("clamp_float: NaN becomes the lower bound", SCALAR,
             put("pub fn clamp_float", "a < lower", "!(a >= lower)"), ALL),
-    Version("atan2: sign of a zero y taken", SCALAR, put("pub fn atan2", "if y < 0.0", "if y.is_sign_negative()"), LEAF),
+    Version("atan2: sign of a zero y taken", SCALAR,
+            put("pub fn atan2", "if y < 0.0", "if y.is_sign_negative()"), LEAF),
     Version("get_twist_angle: polarity with <=", QUAT, put("pub fn get_twist_angle", "q.s < 0.0", "q.s <= 0.0"),
             ("leaves", "stages")),
     Version("delta_quat_to_rotation: polarity with <=", QUAT,
             put("pub fn delta_quat_to_rotation", "< 0.0", "<= 0.0"), ALL),
     Version("mul_add: fused", VECTOR, put("pub fn mul_add", "a.x + s * b.x", "s.mul_add(b.x, a.x)"), ALL),
-    Version("weld: own point softness at hertz zero", WELD, put(W, "joint.linear_hertz > 0.0", "joint.linear_hertz >= 0.0"),
+    Version("weld: own point softness at hertz zero", WELD,
+            put(W, "joint.linear_hertz > 0.0", "joint.linear_hertz >= 0.0"),
             SOLVES),
     Version("weld: own angular softness at hertz zero", WELD,
             put(W, "joint.angular_hertz > 0.0", "joint.angular_hertz >= 0.0"), SOLVES),
@@ -163,20 +172,31 @@ VERSIONS = [
     Version("spherical: rotation mass inverted though fixed", SPHERICAL,
             put("let rotation_mass", "if !base.fixed_rotation", "if true"), STAGE),
     # The oracle's own text after document 01.
-    Version("stop code: impulse of zero counts", "values.rs", put("fn stop_code", "impulse > 0.0", "impulse >= 0.0"), VALUES),
-    Version("stop code: NaN impulse counts", "values.rs", put("fn stop_code", "impulse > 0.0", "!(impulse <= 0.0)"), VALUES),
-    Version("stop code: limit that is off counts", "values.rs", put("fn stop_code", "on && impulse", "(on || !on) && impulse"), VALUES),
-    Version("stop code: upper as 1, lower as 2", "values.rs", put("fn stop_code", "lower + 2 * upper", "upper + 2 * lower"), VALUES),
-    Version("stop code: cone by the twist's switch", "values.rs", put("fn stop_code", "j.enable_cone_limit", "j.enable_twist_limit"), VALUES),
-    Version("stop code: fixed rotation counts", "values.rs", put("fn stop_code", "if joint.fixed_rotation", "if false"), VALUES),
-    Version("stop code: empty case not refused", "values.rs", put("fn stop_code", "[WRONG_CASE, 0, 0]", "[0; 3]"), VALUES),
-    Version("by value: wrong case not refused", "values.rs", put("fn answer(", "kind_of(&joint) != Some(called)", "kind_of(&joint).is_none()"), VALUES),
+    Version("stop code: impulse of zero counts", "values.rs",
+            put("fn stop_code", "impulse > 0.0", "impulse >= 0.0"), VALUES),
+    Version("stop code: NaN impulse counts", "values.rs",
+            put("fn stop_code", "impulse > 0.0", "!(impulse <= 0.0)"), VALUES),
+    Version("stop code: limit that is off counts", "values.rs",
+            put("fn stop_code", "on && impulse", "(on || !on) && impulse"), VALUES),
+    Version("stop code: upper as 1, lower as 2", "values.rs",
+            put("fn stop_code", "lower + 2 * upper", "upper + 2 * lower"), VALUES),
+    Version("stop code: cone by the twist's switch", "values.rs",
+            put("fn stop_code", "j.enable_cone_limit", "j.enable_twist_limit"), VALUES),
+    Version("stop code: fixed rotation counts", "values.rs",
+            put("fn stop_code", "if joint.fixed_rotation", "if false"), VALUES),
+    Version("stop code: empty case not refused", "values.rs",
+            put("fn stop_code", "[WRONG_CASE, 0, 0]", "[0; 3]"), VALUES),
+    Version("by value: wrong case not refused", "values.rs",
+            put("fn answer(", "kind_of(&joint) != Some(called)", "kind_of(&joint).is_none()"), VALUES),
     Version("by value: refused by its type", "values.rs",
             put("fn answer(", "kind_of(&joint) != Some(called)",
                 "kind_of(&joint) != Some(called) || joint.type_ != crate::records::joint_type(called)"), VALUES),
-    Version("direct: more than 3 states refused", "direct.rs", put("fn answer(", "&joint, count)", "&joint, count.min(3))"), ("direct",)),
-    Version("direct: more than 32 states refused", "direct.rs", put("fn answer(", "&joint, count)", "&joint, count.min(32))"), ("direct",)),
-    Version("direct: index -1 refused", "plain_run.rs", put("pub fn direct_number", "-1..", "0.."), ("direct", "lists")),
+    Version("direct: more than 3 states refused", "direct.rs",
+            put("fn answer(", "&joint, count)", "&joint, count.min(3))"), ("direct",)),
+    Version("direct: more than 32 states refused", "direct.rs",
+            put("fn answer(", "&joint, count)", "&joint, count.min(32))"), ("direct",)),
+    Version("direct: index -1 refused", "plain_run.rs",
+            put("pub fn direct_number", "-1..", "0.."), ("direct", "lists")),
     Version("direct: second index before the first", "plain_run.rs",
             put("pub fn direct_number", "let [a, b]", "let [b, a]"), ("direct", "lists")),
     Version("list: stage before slot", "plain_run.rs",

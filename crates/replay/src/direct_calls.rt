@@ -1,7 +1,7 @@
 // The cases of direct calls on lent memory.
 //
 // The inputs are the joint behind the number of its case, for a solve the context and the switch, then
-// how many states are lent, at most 3, and these. The answer is number, place, the joint and the
+// how many states are lent, at most 40, and these. The answer is number, place, the joint and the
 // states. As in stages.rt, what was read is compared with the words that it was read from too.
 use crate::compare::has_words;
 use crate::compare::is_switch;
@@ -10,12 +10,11 @@ use crate::joint_words::cased_joint;
 use crate::joint_words::is_cased_joint;
 use crate::joint_words::same_joint;
 use crate::joint_words::words_of;
+use crate::lent_words::same_states;
+use crate::lent_words::states_of;
 use crate::record_words::CONTEXT_WORDS;
-use crate::record_words::STATE_WORDS;
 use crate::record_words::context;
 use crate::record_words::same_context;
-use crate::record_words::same_state;
-use crate::record_words::state;
 use crate::record_words::words_of_states;
 use crate::words::behind;
 use crate::words::plus;
@@ -28,14 +27,12 @@ use lent_calls::lend_solve_weld_joint;
 use lent_calls::lend_warm_start_revolute_joint;
 use lent_calls::lend_warm_start_spherical_joint;
 use lent_calls::lend_warm_start_weld_joint;
-use records::body::BodyState;
-use records::body::IDENTITY_BODY_STATE;
 use solver::StepContext;
 
 // The call on the joint of the inputs and the states of `rest`.
 fn warm_start(kind: u32, p: &[u8], rest: &[u8], count: usize) -> Lent {
     let joint = cased_joint(p);
-    let states = states_at(rest);
+    let states = states_of(rest);
     if kind == 0 {
         return lend_warm_start_revolute_joint(joint, states, count, 1);
     }
@@ -54,7 +51,7 @@ fn solve(
     count: usize,
 ) -> Lent {
     let joint = cased_joint(p);
-    let states = states_at(rest);
+    let states = states_of(rest);
     if kind == 0 {
         return lend_solve_revolute_joint(joint, step, states, count, use_bias, 1);
     }
@@ -62,30 +59,6 @@ fn solve(
         return lend_solve_spherical_joint(joint, step, states, count, use_bias, 1);
     }
     lend_solve_weld_joint(joint, step, states, count, use_bias, 1)
-}
-
-// Three states, of which the first are those that a case has, before others that are not lent.
-fn states_at(p: &[u8]) -> [BodyState; 40] {
-    let mut states = [IDENTITY_BODY_STATE; 40];
-    states[0] = state(p);
-    states[1] = state(behind(p, STATE_WORDS));
-    states[2] = state(behind(p, 2 * STATE_WORDS));
-    states
-}
-
-// Whether the words begin with those of a state, if one is lent.
-fn same_lent(is_lent: bool, p: &[u8], state: BodyState) -> bool {
-    !is_lent || same_state(p, state)
-}
-
-// Whether the words begin with those of the first `count` states.
-fn same_states(p: &[u8], states: [BodyState; 40], count: u32) -> bool {
-    let first = states[0];
-    let second = states[1];
-    let third = states[2];
-    same_lent(count > 0, p, first)
-        & same_lent(count > 1, behind(p, STATE_WORDS), second)
-        & same_lent(count > 2, behind(p, 2 * STATE_WORDS), third)
 }
 
 // Whether the words behind the states are the answer: number, place, the joint of the case, and the
@@ -96,14 +69,14 @@ fn same_left(case: u32, rest: &[u8], count: u32, left: Lent) -> bool {
     let states = left.states;
     same_word(p, 0, answer.number)
         & same_word(p, 1, answer.place)
-        & same_states(behind(p, plus(2, words_of(case))), states, count)
+        & same_states(behind(p, plus(2, words_of(case))), states, count as usize)
         & same_joint(case, behind(p, 2), left.joint)
 }
 
 // Whether a case is as long as its parts: `before` words up to the states, and the answer.
 fn is_whole(p: &[u8], before: usize, joint_words: usize, count: u32) -> bool {
     let states = words_of_states(count);
-    count <= 3
+    count <= 40
         && has_words(
             p,
             plus(plus(before, plus(states, 2)), plus(joint_words, states)),
