@@ -100,14 +100,21 @@ fn print_again() -> io::Result<()> {
     Ok(())
 }
 
+fn usage() -> String {
+    let groups: Vec<&str> = GROUPS.iter().map(|(name, _)| *name).collect();
+    let groups = groups.join(" ");
+    format!("usage: oracle SEED {groups} | oracle all-sqrt | oracle reorder SEED COUNT | oracle again")
+}
+
 fn main() -> ExitCode {
     let arguments: Vec<String> = std::env::args().skip(1).collect();
+    if arguments.iter().any(|word| word == "--help" || word == "-h") {
+        println!("{}", usage());
+        return ExitCode::SUCCESS;
+    }
     let Some(task) = parse(&arguments) else {
-        let groups: Vec<&str> = GROUPS.iter().map(|(name, _)| *name).collect();
-        eprintln!(
-            "usage: oracle SEED {} | oracle all-sqrt | oracle reorder SEED COUNT | oracle again",
-            groups.join(" ")
-        );
+        eprintln!("No list is told by these arguments.");
+        eprintln!("{}", usage());
         return ExitCode::from(2);
     };
     match write(task) {
