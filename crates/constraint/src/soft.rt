@@ -32,7 +32,7 @@ pub struct SoftBias3 {
 }
 
 // The bias of a row that is not softened.
-pub const RIGID: SoftBias = SoftBias {
+const RIGID: SoftBias = SoftBias {
     bias: 0.0,
     mass_scale: 1.0,
     impulse_scale: 0.0,

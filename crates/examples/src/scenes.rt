@@ -20,7 +20,7 @@ use solver::NO_SOFTNESS;
 use solver::Softness;
 use solver::StepContext;
 
-pub fn no_softness() -> Softness {
+fn no_softness() -> Softness {
     NO_SOFTNESS
 }
 

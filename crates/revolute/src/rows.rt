@@ -127,7 +127,7 @@ pub fn perp_axis(q: Quat, rel_q: Quat, axis: Vec3) -> Vec3
 }
 
 // The bias of the perpendicular row.
-pub fn perp_bias(use_bias: bool, softness: Softness, rel_q: Quat) -> SoftBias2
+fn perp_bias(use_bias: bool, softness: Softness, rel_q: Quat) -> SoftBias2
     ensures { λ r. ⌜ r ≡ D.perpBias «use_bias» softness «rel_q» ⌝ }
 {
     if use_bias {
@@ -142,7 +142,7 @@ pub fn perp_bias(use_bias: bool, softness: Softness, rel_q: Quat) -> SoftBias2
 }
 
 // Collinearity constraint as 2-by-2
-pub fn perp_mass(inv_inertia_sum: Matrix3, axis_x: Vec3, axis_y: Vec3) -> Mat2
+fn perp_mass(inv_inertia_sum: Matrix3, axis_x: Vec3, axis_y: Vec3) -> Mat2
     ensures { λ r. ⌜ r ≡ D.perpMass «inv_inertia_sum» «axis_x» «axis_y» ⌝ }
 {
     let inv_inertia_y = mul_mv(inv_inertia_sum, axis_y);
@@ -156,7 +156,7 @@ pub fn perp_mass(inv_inertia_sum: Matrix3, axis_x: Vec3, axis_y: Vec3) -> Mat2
 }
 
 // The impulse of a soft row of two dimensions, where b is what the row's mass made of the error.
-pub fn soft_impulse2_products(s: SoftBias2, b: Vec2, old_impulse: Vec2) -> Vec2
+fn soft_impulse2_products(s: SoftBias2, b: Vec2, old_impulse: Vec2) -> Vec2
     ensures { λ r. ⌜ r ≡ D.softImpulse2Products s b «old_impulse» ⌝ }
 {
     sub2(
@@ -173,7 +173,7 @@ pub fn perp_angular_impulse(impulse: Vec2, axis_x: Vec3, axis_y: Vec3) -> Vec3
 }
 
 // Collinearity constraint, once its two axes are known.
-pub fn collinear_row(
+fn collinear_row(
     s: SoftBias2,
     axis_x: Vec3,
     axis_y: Vec3,

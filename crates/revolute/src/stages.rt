@@ -63,7 +63,7 @@ pub struct RevoluteSolved {
 }
 
 // The joint with other impulses and other perpendicular axes.
-pub fn with_impulses(
+fn with_impulses(
     mut joint: RevoluteJoint,
     linear_impulse: Vec3,
     perp_impulse: Vec2,
@@ -88,7 +88,7 @@ pub fn with_impulses(
 }
 
 // The impulses stay only for a warm start.
-pub fn keep_impulses(mut joint: RevoluteJoint, enable_warm_starting: bool) -> RevoluteJoint
+fn keep_impulses(mut joint: RevoluteJoint, enable_warm_starting: bool) -> RevoluteJoint
     ensures { λ r. ⌜ r ≡ D.keepImpulses joint «enable_warm_starting» ⌝ }
 {
     if !enable_warm_starting {
@@ -141,7 +141,7 @@ pub fn prepare_revolute(
 }
 
 // The angular impulse of all rows but the point row.
-pub fn warm_angular_impulse(joint: RevoluteJoint) -> Vec3
+fn warm_angular_impulse(joint: RevoluteJoint) -> Vec3
     ensures { λ r. ⌜ r ≡ D.warmAngularImpulse joint ⌝ }
 {
     let axial_impulse = joint.spring_impulse + joint.motor_impulse + joint.lower_impulse
@@ -172,11 +172,7 @@ pub fn warm_start_revolute(
 }
 
 // Where frame B stands relative to frame A.
-pub fn joint_rotation(
-    joint: RevoluteJoint,
-    state_a: BodyState,
-    state_b: BodyState,
-) -> RelativeRotation
+fn joint_rotation(joint: RevoluteJoint, state_a: BodyState, state_b: BodyState) -> RelativeRotation
     ensures { λ r. ⌜ r ≡ D.jointRotation joint «state_a» «state_b» ⌝ }
 {
     let quat_a = mul_quat(state_a.delta_rotation, joint.frame_a.q);
@@ -186,7 +182,7 @@ pub fn joint_rotation(
 }
 
 // The spring row at the fields of the joint.
-pub fn solve_spring(
+fn solve_spring(
     fixed_rotation: bool,
     joint: RevoluteJoint,
     rel_q: Quat,
@@ -209,7 +205,7 @@ pub fn solve_spring(
 }
 
 // The motor row at the fields of the joint.
-pub fn solve_motor(
+fn solve_motor(
     fixed_rotation: bool,
     joint: RevoluteJoint,
     h: f32,
@@ -232,7 +228,7 @@ pub fn solve_motor(
 }
 
 // The two limit rows at the fields of the joint.
-pub fn solve_limits(
+fn solve_limits(
     fixed_rotation: bool,
     softness: Softness,
     joint: RevoluteJoint,
@@ -272,7 +268,7 @@ pub fn solve_limits(
 }
 
 // The perpendicular row at the fields of the joint. It has no switch.
-pub fn solve_perp(
+fn solve_perp(
     fixed_rotation: bool,
     softness: Softness,
     joint: RevoluteJoint,
@@ -297,7 +293,7 @@ pub fn solve_perp(
 }
 
 // The point row at the fields of the joint and the states.
-pub fn solve_point(
+fn solve_point(
     softness: Softness,
     joint: RevoluteJoint,
     state_a: BodyState,

@@ -32,13 +32,13 @@ pub struct SphericalPrepared {
 }
 
 // The axis of a limit, and the effective mass about it.
-pub struct LimitAxis {
+struct LimitAxis {
     pub axis: Vec3,
     pub mass: f32,
 }
 
 // The cone's axis. Where the cone is off the older one stays.
-pub fn prepare_swing(
+fn prepare_swing(
     joint: SphericalJoint,
     inv_inertia_sum: Matrix3,
     cone_axis: Vec3,
@@ -59,7 +59,7 @@ pub fn prepare_swing(
     LimitAxis { axis, mass }
 }
 
-pub fn twist_jacobian(quat_a: Quat, quat_b: Quat, cone_axis: Vec3, twist_axis: Vec3) -> Vec3
+fn twist_jacobian(quat_a: Quat, quat_b: Quat, cone_axis: Vec3, twist_axis: Vec3) -> Vec3
     ensures { λ r. ⌜ r ≡ D.twistJacobian «quat_a» «quat_b» «cone_axis» «twist_axis» ⌝ }
 {
     let rel_q = inv_mul_quat(quat_a, quat_b);
@@ -73,7 +73,7 @@ pub fn twist_jacobian(quat_a: Quat, quat_b: Quat, cone_axis: Vec3, twist_axis: V
 }
 
 // The twist limit's axis. Where the limit is off the older one stays.
-pub fn prepare_twist(
+fn prepare_twist(
     joint: SphericalJoint,
     inv_inertia_sum: Matrix3,
     quat_a: Quat,
@@ -95,7 +95,7 @@ pub fn prepare_twist(
     LimitAxis { axis, mass }
 }
 
-pub fn prepare_rotation_mass(fixed_rotation: bool, inv_inertia_sum: Matrix3) -> Matrix3
+fn prepare_rotation_mass(fixed_rotation: bool, inv_inertia_sum: Matrix3) -> Matrix3
     ensures { λ r. ⌜ r ≡ D.prepareRotationMass «fixed_rotation» «inv_inertia_sum» ⌝ }
 {
     if !fixed_rotation {
@@ -106,7 +106,7 @@ pub fn prepare_rotation_mass(fixed_rotation: bool, inv_inertia_sum: Matrix3) -> 
 }
 
 // The joint with its impulses, which are cleared if warm starting is off.
-pub fn keep_impulses(mut joint: SphericalJoint, enable_warm_starting: bool) -> SphericalJoint
+fn keep_impulses(mut joint: SphericalJoint, enable_warm_starting: bool) -> SphericalJoint
     ensures { λ r. ⌜ r ≡ D.keepImpulses joint «enable_warm_starting» ⌝ }
 {
     if !enable_warm_starting {

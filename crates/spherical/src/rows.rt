@@ -77,7 +77,7 @@ fn limit_scale(len: f32, max_impulse: f32) -> f32
 
 // The impulse, scaled where it is longer than max_impulse. The choice is of the scale, one number,
 // where the Rust's is of the vector: one times a number is that number.
-pub fn limit_length(impulse: Vec3, max_impulse: f32) -> Vec3
+fn limit_length(impulse: Vec3, max_impulse: f32) -> Vec3
     ensures { λ r. ⌜ r ≡ D.limitLength impulse «max_impulse» ⌝ }
 {
     mul_sv(limit_scale(length(impulse), max_impulse), impulse)

@@ -35,7 +35,7 @@ pub fn is_soft(use_bias: bool, hertz: f32) -> bool
 }
 
 // The bias of the angular row.
-pub fn angular_bias(soft: bool, softness: Softness, rotation: RelativeRotation) -> SoftBias3
+fn angular_bias(soft: bool, softness: Softness, rotation: RelativeRotation) -> SoftBias3
     ensures { λ r. ⌜ r ≡ D.angularBias soft softness rotation ⌝ }
 {
     if soft {

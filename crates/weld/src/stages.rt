@@ -44,7 +44,7 @@ pub struct WeldSolved {
 }
 
 // The softness of a row: the joint's own where the row's hertz is zero.
-pub fn row_spring(hertz: f32, damping_ratio: f32, h: f32, constraint_softness: Softness) -> Softness
+fn row_spring(hertz: f32, damping_ratio: f32, h: f32, constraint_softness: Softness) -> Softness
     ensures { λ r. ⌜ r ≡ D.rowSpring hertz «damping_ratio» h «constraint_softness» ⌝ }
 {
     if hertz == 0.0 {
@@ -55,7 +55,7 @@ pub fn row_spring(hertz: f32, damping_ratio: f32, h: f32, constraint_softness: S
 }
 
 // The impulses stay only for a warm start.
-pub fn keep_impulses(mut joint: WeldJoint, enable_warm_starting: bool) -> WeldJoint
+fn keep_impulses(mut joint: WeldJoint, enable_warm_starting: bool) -> WeldJoint
     ensures { λ r. ⌜ r ≡ D.keepImpulses joint «enable_warm_starting» ⌝ }
 {
     if !enable_warm_starting {
@@ -114,7 +114,7 @@ pub fn warm_start_weld(
 }
 
 // The angular row at the fields of the joint and the states.
-pub fn solve_angular(
+fn solve_angular(
     fixed_rotation: bool,
     joint: WeldJoint,
     state_a: BodyState,
