@@ -17,12 +17,11 @@ use Rattle.records.specs.declared.joint.JointUnion.the-variants.{Revolute, Sphe
 use Rattle.records.specs.declared.joint.JointBase.{JointBase}
 use Rattle.records.specs.declared.joint.JointSim.{JointSim}
 use Rattle.records.specs.Body.{isDynamic, withVelocities, storeVelocities}
-use Rattle.records.specs.Joint.{caseOf, unusedJoint}
+use Rattle.records.specs.Joint.{caseOf, unusedJoint, jointSim}
 use Rattle.constraint.specs.declared.velocity.Velocities.{Velocities}
 use Rattle.constraint.specs.declared.answer.WarmStarted.{WarmStarted}
 use Rattle.constraint.specs.declared.answer.Solved.{Solved}
 use Rattle.constraint.specs.Velocity.{velocitiesOf}
-use Rattle.constraint.specs.Answer.{jointSim}
 use Rattle.joint.specs.Stage.{Staged, staged, warmStartJoint, solveJoint, stageJoint}
 use Rattle.joint.specs.Index.{indexA, indexB}
 use Rattle.joint.proofs.Stages.{warmStartOf, solveOf, warm-start-of, solve-of}

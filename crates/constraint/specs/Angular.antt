@@ -51,9 +51,21 @@ angularRow s mass oldImpulse m v =
     let impulse = softImpulse3 s (mulMv mass (add cdot (s .bias))) oldImpulse in
     row3 (add oldImpulse impulse) (applyAngular m impulse v)
 
--- revolute's limit, spherical's twist limit: the lower row, then the upper row, both at one angle, which is the twist angle of the start
-unfoldable pub twistLimitRows : Bool → Float → Float → Float → Softness → Float → Bool → Float → Vec3 → Float → Float → InvMasses → Velocities → LimitRows
-twistLimitRows worked angle lowerAngle upperAngle s invH useBias mass axis oldLower oldUpper m v =
-    let lower = lowerLimitRow (limitBias (angle ⊖ lowerAngle) s invH useBias) mass axis oldLower m v in
-    let upper = upperLimitRow (limitBias (upperAngle ⊖ angle) s invH useBias) mass axis oldUpper m (lower .velocities) in
-    cond (not worked) (limitRows oldLower oldUpper v) (limitRows (lower .impulse) (upper .impulse) (upper .velocities))
+-- a limit about an axis, with a lower and an upper angle: what its two rows are worked with. `angle` is the twist angle of the start
+pub record TwistLimit : Type 0 where
+  pub angle : Float
+  pub «lower_angle» : Float
+  pub «upper_angle» : Float
+  pub mass : Float
+  pub axis : Vec3
+  pub «lower_impulse» : Float
+  pub «upper_impulse» : Float
+
+-- revolute's limit, spherical's twist limit: the lower row, then the upper row, both at one angle
+unfoldable pub twistLimitRows : Bool → TwistLimit → Softness → Float → Bool → InvMasses → Velocities → LimitRows
+twistLimitRows worked l s invH useBias m v =
+    let lowerBias = limitBias (l .angle ⊖ l .«lower_angle») s invH useBias in
+    let lower = lowerLimitRow lowerBias (l .mass) (l .axis) (l .«lower_impulse») m v in
+    let upperBias = limitBias (l .«upper_angle» ⊖ l .angle) s invH useBias in
+    let upper = upperLimitRow upperBias (l .mass) (l .axis) (l .«upper_impulse») m (lower .velocities) in
+    cond (not worked) (limitRows (l .«lower_impulse») (l .«upper_impulse») v) (limitRows (lower .impulse) (upper .impulse) (upper .velocities))

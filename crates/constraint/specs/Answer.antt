@@ -1,16 +1,11 @@
 -- The answers of the stages: number 0 with what was done, or number 1 with nothing altered. Place is 0. Definitions only. Assumes nothing.
 use Rattle.records.specs.declared.body.BodyState.{BodyState}
-use Rattle.records.specs.declared.joint.JointBase.{JointBase}
 use Rattle.records.specs.declared.joint.JointSim.{JointSim}
-use Rattle.records.specs.declared.joint.JointUnion.{JointUnion}
 use Rattle.constraint.specs.declared.velocity.Velocities.{Velocities}
 use Rattle.constraint.specs.declared.answer.Prepared.{Prepared}
 use Rattle.constraint.specs.declared.answer.WarmStarted.{WarmStarted}
 use Rattle.constraint.specs.declared.answer.Solved.{Solved}
 use Rattle.constraint.specs.Velocity.{velocitiesOf}
-
-abbrev pub jointSim : JointBase → JointUnion → JointSim
-jointSim base union = record { base = base; «union_» = union }
 
 abbrev pub prepared : JointSim → Prepared
 prepared joint = record { number = 0; place = 0; joint = joint }

@@ -6,5 +6,4 @@ pub mod Point
 pub mod Prepare
 pub mod Answer
 pub mod Steps
-pub mod Facts
-pub mod Fixed
+pub mod Claims

@@ -14,28 +14,23 @@ use Rattle.math_functions.specs.Matrix.{det, addMm, mulMv}
 use Rattle.records.specs.declared.body.BodyRecord.{BodyRecord}
 use Rattle.records.specs.declared.joint.JointBase.{JointBase}
 use Rattle.records.specs.Body.{nullIndex}
+use Rattle.records.specs.Base.{withMade}
+
+-- the determinant of the sum of the two inverse inertias
+abbrev pub inertiaDet : BodyRecord → BodyRecord → Float
+inertiaDet bodyA bodyB = det (addMm (bodyA .«inv_inertia_world») (bodyB .«inv_inertia_world»))
 
 -- document 01's `fixed_rotation` is det(sum of inertias) < 1000 × 2 ^ -126
 unfoldable pub prepareBase : JointBase → BodyRecord → BodyRecord → JointBase
 prepareBase base bodyA bodyB =
-    record {
-      «joint_id» = base .«joint_id»;
-      «body_id_a» = base .«body_id_a»;
-      «body_id_b» = base .«body_id_b»;
-      «type_» = base .«type_»;
-      «local_frame_a» = base .«local_frame_a»;
-      «local_frame_b» = base .«local_frame_b»;
+    withMade base
+    (record {
       «inv_mass_a» = bodyA .«inv_mass»;
       «inv_mass_b» = bodyB .«inv_mass»;
       «inv_i_a» = bodyA .«inv_inertia_world»;
       «inv_i_b» = bodyB .«inv_inertia_world»;
-      «constraint_hertz» = base .«constraint_hertz»;
-      «constraint_damping_ratio» = base .«constraint_damping_ratio»;
-      «constraint_softness» = base .«constraint_softness»;
-      «force_threshold» = base .«force_threshold»;
-      «torque_threshold» = base .«torque_threshold»;
-      «fixed_rotation» = lt (det (addMm (bodyA .«inv_inertia_world») (bodyB .«inv_inertia_world»))) threshold;
-    }
+      «fixed_rotation» = lt (inertiaDet bodyA bodyB) threshold;
+    })
 
 -- set == AWAKE_SET, which is 2
 abbrev pub isAwake : ℤ → Bool

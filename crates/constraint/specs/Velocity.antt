@@ -1,4 +1,5 @@
--- The velocities that the rows change, the inverse masses that they multiply by, and how a row's impulse changes the velocities. Definitions only. Assumes nothing.
+-- The velocities that the rows change, the inverse masses that they multiply by, and how a row's impulse changes the velocities. Definitions only. Assumes
+-- nothing.
 use lib.Ieee.{Float}
 use Rattle.math_functions.specs.declared.types.Vec3.{Vec3}
 use Rattle.math_functions.specs.Vector.{add, sub, cross, mulAdd, mulSub}

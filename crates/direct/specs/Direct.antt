@@ -12,7 +12,7 @@ use Rattle.records.specs.declared.body.BodyState.{BodyState}
 use Rattle.records.specs.declared.joint.JointUnion.{JointUnion}
 use Rattle.records.specs.declared.joint.JointUnion.the-variants.{Revolute, Spherical, Weld, Other}
 use Rattle.records.specs.declared.joint.JointSim.{JointSim}
-use Rattle.constraint.specs.Answer.{jointSim}
+use Rattle.records.specs.Joint.{jointSim}
 use Rattle.joint.specs.Stage.{Staged, stageJoint}
 use Rattle.joint.specs.Index.{indexA, indexB, indexCause}
 use Rattle.scene.specs.Scene.{stateAt}

@@ -19,8 +19,7 @@ use Rattle.records.specs.declared.joint.JointSim.{JointSim}
 use Rattle.records.specs.declared.joint.JointUnion.{JointUnion}
 use Rattle.records.specs.declared.joint.JointUnion.the-variants.{Revolute, Spherical, Weld, Other}
 use Rattle.records.specs.Body.{storeVelocities, identityBodyState}
-use Rattle.records.specs.Joint.{isOther, unusedJoint}
-use Rattle.constraint.specs.Answer.{jointSim}
+use Rattle.records.specs.Joint.{isOther, unusedJoint, jointSim}
 use Rattle.joint.specs.Stage.{Staged, stageJoint}
 use Rattle.joint.specs.Index.{indexA, indexB, badIndex, indexCause}
 use Rattle.scene.specs.declared.Scene.{Scene}

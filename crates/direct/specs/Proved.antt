@@ -15,10 +15,9 @@ use Rattle.records.specs.declared.joint.JointSim.{JointSim}
 use Rattle.records.specs.declared.joint.JointUnion.{JointUnion}
 use Rattle.records.specs.declared.joint.JointUnion.the-variants.{Revolute, Spherical, Weld, Other}
 use Rattle.records.specs.Body.{isDynamic, withVelocities, storeVelocities}
-use Rattle.constraint.specs.Answer.{jointSim}
+use Rattle.records.specs.Joint.{jointSim, caseOf}
 use Rattle.joint.specs.Stage.{Staged, stageJoint}
 use Rattle.joint.specs.Index.{indexA, indexB, badIndex}
-use Rattle.records.specs.Joint.{caseOf}
 use Rattle.scene.specs.Scene.{stateAt, store}
 use Rattle.scene.specs.Plain.{verdictOf, storeBoth}
 use Rattle.scene.specs.Claims.{LimitsNonNegative}

@@ -28,14 +28,13 @@ use Rattle.records.specs.declared.joint.SphericalJoint.{SphericalJoint}
 use Rattle.records.specs.declared.body.BodyState.{BodyState}
 use Rattle.records.specs.Body as Body
 use Rattle.records.specs.Body.{identityBodyState}
-use Rattle.records.specs.Joint.{unusedJoint}
+use Rattle.records.specs.Joint.{unusedJoint, jointSim}
 use Rattle.constraint.specs.Velocity as Velocity
 use Rattle.constraint.specs.Soft as Soft
 use Rattle.constraint.specs.Rotation as Rotation
 use Rattle.constraint.specs.Angular as Angular
 use Rattle.constraint.specs.Point as Point
 use Rattle.constraint.specs.Prepare as Prepare
-use Rattle.constraint.specs.Answer.{jointSim}
 use Rattle.revolute.specs.Revolute as R
 use Rattle.spherical.specs.Spherical as S
 use Rattle.weld.specs.Weld as W

@@ -32,7 +32,7 @@ use Rattle.constraint.specs.Rotation as Rotation
 use Rattle.constraint.specs.Angular as Angular
 use Rattle.constraint.specs.Point as Point
 use Rattle.constraint.specs.Prepare as Prepare
-use Rattle.constraint.specs.Answer.{jointSim}
+use Rattle.records.specs.Joint.{jointSim}
 use Rattle.revolute.specs.Revolute as R
 use Rattle.weld.specs.Weld as W
 use Rattle.joint.specs.Stage as Stage

@@ -18,7 +18,7 @@ use Rattle.records.specs.declared.joint.JointSim.{JointSim}
 use Rattle.records.specs.declared.joint.JointUnion.{JointUnion}
 use Rattle.records.specs.declared.joint.JointUnion.the-variants.{Revolute, Spherical, Weld, Other}
 use Rattle.records.specs.declared.joint.RevoluteJoint.{RevoluteJoint}
-use Rattle.constraint.specs.Answer.{jointSim}
+use Rattle.records.specs.Joint.{jointSim}
 use Rattle.revolute.specs.Revolute as R
 use Rattle.weld.specs.Weld as W
 use Rattle.scene.specs.Chain as Chain

@@ -8,9 +8,8 @@ use Rattle.records.specs.declared.body.BodyRecord.{BodyRecord}
 use Rattle.records.specs.declared.joint.JointBase.{JointBase}
 use Rattle.records.specs.declared.joint.JointUnion.{JointUnion}
 use Rattle.records.specs.declared.joint.JointUnion.the-variants.{Revolute, Spherical, Weld, Other}
-use Rattle.records.specs.Joint.{isOther}
+use Rattle.records.specs.Joint.{isOther, jointSim}
 use Rattle.constraint.specs.declared.answer.Prepared.{Prepared}
-use Rattle.constraint.specs.Answer.{jointSim}
 use Rattle.revolute.specs.Revolute.{prepareRevoluteJoint}
 use Rattle.spherical.specs.Spherical.{prepareSphericalJoint}
 use Rattle.weld.specs.Weld.{prepareWeldJoint}

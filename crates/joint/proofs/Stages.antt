@@ -12,10 +12,10 @@ use Rattle.records.specs.declared.joint.JointBase.{JointBase}
 use Rattle.records.specs.declared.joint.JointSim.{JointSim}
 use Rattle.records.specs.declared.joint.JointUnion.{JointUnion}
 use Rattle.records.specs.declared.joint.JointUnion.the-variants.{Revolute, Spherical, Weld, Other}
-use Rattle.records.specs.Joint.{caseOf}
+use Rattle.records.specs.Joint.{caseOf, jointSim}
 use Rattle.constraint.specs.declared.answer.WarmStarted.{WarmStarted}
 use Rattle.constraint.specs.declared.answer.Solved.{Solved}
-use Rattle.constraint.specs.Answer.{jointSim, warmStarted, solved}
+use Rattle.constraint.specs.Answer.{warmStarted, solved}
 use Rattle.revolute.specs.Revolute.{warmStartRevoluteJoint, solveRevoluteJoint}
 use Rattle.spherical.specs.Spherical.{warmStartSphericalJoint, solveSphericalJoint}
 use Rattle.weld.specs.Weld.{warmStartWeldJoint, solveWeldJoint}

@@ -10,7 +10,7 @@ use Rattle.records.specs.declared.joint.JointUnion.the-variants.{Revolute}
 use Rattle.records.specs.declared.joint.JointSim.{JointSim}
 use Rattle.records.specs.declared.joint.RevoluteJoint.{RevoluteJoint}
 use Rattle.records.specs.Body.{nullIndex}
-use Rattle.constraint.specs.Answer.{jointSim}
+use Rattle.records.specs.Joint.{jointSim}
 use Rattle.models.specs.declared.Model.{Model}
 use Rattle.models.specs.Base.{post, jointBase}
 use Rattle.models.specs.Body.{fixedBody, slab}

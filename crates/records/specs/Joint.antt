@@ -1,11 +1,7 @@
--- Which case a joint is, and a joint that is not in use. Definitions only. Assumes nothing.
+-- Which case a joint is, a joint after a stage, and a joint that is not in use. Definitions only. Assumes nothing.
 use mathlib.Core.Bool.{Bool, true, false}
 use mathlib.Core.Option.{Option, none, some}
 use Prim.Native.Nat.{ℕ}
-use Rattle.math_functions.specs.Float.{zero}
-use Rattle.math_functions.specs.Types.{transformIdentity, mat3Zero}
-use Rattle.solver.specs.Solver.{noSoftness}
-use Rattle.records.specs.declared.joint.JointType.the-variants as JointType
 use Rattle.records.specs.declared.joint.RevoluteJoint.{RevoluteJoint}
 use Rattle.records.specs.declared.joint.SphericalJoint.{SphericalJoint}
 use Rattle.records.specs.declared.joint.WeldJoint.{WeldJoint}
@@ -13,7 +9,7 @@ use Rattle.records.specs.declared.joint.JointBase.{JointBase}
 use Rattle.records.specs.declared.joint.JointUnion.{JointUnion}
 use Rattle.records.specs.declared.joint.JointUnion.the-variants.{Revolute, Spherical, Weld, Other}
 use Rattle.records.specs.declared.joint.JointSim.{JointSim}
-use Rattle.records.specs.Body.{nullIndex}
+use Rattle.records.specs.Base.{defaultBase}
 
 -- which case a joint is
 abbrev pub caseOf : JointUnion → ℕ
@@ -62,28 +58,15 @@ isOther (Spherical r) = false
 isOther (Weld r) = false
 isOther Other = true
 
--- the Rust's default of JointSim, all but the union
-abbrev pub defaultBase : JointBase
-defaultBase =
-    record {
-      «joint_id» = nullIndex;
-      «body_id_a» = nullIndex;
-      «body_id_b» = nullIndex;
-      «type_» = JointType.Distance;
-      «local_frame_a» = transformIdentity;
-      «local_frame_b» = transformIdentity;
-      «inv_mass_a» = zero;
-      «inv_mass_b» = zero;
-      «inv_i_a» = mat3Zero;
-      «inv_i_b» = mat3Zero;
-      «constraint_hertz» = zero;
-      «constraint_damping_ratio» = zero;
-      «constraint_softness» = noSoftness;
-      «force_threshold» = zero;
-      «torque_threshold» = zero;
-      «fixed_rotation» = false;
-    }
+-- ---- a joint, put together here and nowhere else
 
--- UNUSED_JOINT: the default, with the empty case
+abbrev pub jointSim : JointBase → JointUnion → JointSim
+jointSim base union = record { base = base; «union_» = union }
+
+-- the joint once a warm start or a solve has left this record of its kind: all else stays as it was
+abbrev pub afterStage : JointSim → JointUnion → JointSim
+afterStage joint union = jointSim (joint .base) union
+
+-- UNUSED_JOINT: the Rust's default, with the empty case
 abbrev pub unusedJoint : JointSim
-unusedJoint = record { base = defaultBase; «union_» = Other }
+unusedJoint = jointSim defaultBase Other

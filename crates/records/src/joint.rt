@@ -2,9 +2,12 @@
 use crate::NULL_INDEX;
 use math_functions::types::MAT3_ZERO;
 use math_functions::types::Matrix3;
+use math_functions::types::QUAT_IDENTITY;
 use math_functions::types::Quat;
 use math_functions::types::TRANSFORM_IDENTITY;
 use math_functions::types::Transform;
+use math_functions::types::VEC2_ZERO;
+use math_functions::types::VEC3_ZERO;
 use math_functions::types::Vec2;
 use math_functions::types::Vec3;
 use solver::NO_SOFTNESS;
@@ -55,6 +58,37 @@ pub struct RevoluteJoint {
     pub enable_limit: bool,
 }
 
+// The Rust's default.
+pub const DEFAULT_REVOLUTE_JOINT: RevoluteJoint = RevoluteJoint {
+    linear_impulse: VEC3_ZERO,
+    perp_impulse: VEC2_ZERO,
+    spring_impulse: 0.0,
+    motor_impulse: 0.0,
+    lower_impulse: 0.0,
+    upper_impulse: 0.0,
+    hertz: 0.0,
+    damping_ratio: 0.0,
+    max_motor_torque: 0.0,
+    motor_speed: 0.0,
+    target_angle: 0.0,
+    lower_angle: 0.0,
+    upper_angle: 0.0,
+    index_a: NULL_INDEX,
+    index_b: NULL_INDEX,
+    frame_a: TRANSFORM_IDENTITY,
+    frame_b: TRANSFORM_IDENTITY,
+    rotation_axis_z: VEC3_ZERO,
+    perp_axis_x: VEC3_ZERO,
+    perp_axis_y: VEC3_ZERO,
+    delta_center: VEC3_ZERO,
+    delta_angle: 0.0,
+    axial_mass: 0.0,
+    spring_softness: NO_SOFTNESS,
+    enable_spring: false,
+    enable_motor: false,
+    enable_limit: false,
+};
+
 pub struct SphericalJoint {
     pub linear_impulse: Vec3,
     pub spring_impulse: Vec3,
@@ -90,6 +124,39 @@ pub struct SphericalJoint {
     pub enable_twist_limit: bool,
 }
 
+// The Rust's default.
+pub const DEFAULT_SPHERICAL_JOINT: SphericalJoint = SphericalJoint {
+    linear_impulse: VEC3_ZERO,
+    spring_impulse: VEC3_ZERO,
+    motor_impulse: VEC3_ZERO,
+    lower_twist_impulse: 0.0,
+    upper_twist_impulse: 0.0,
+    swing_impulse: 0.0,
+    hertz: 0.0,
+    damping_ratio: 0.0,
+    max_motor_torque: 0.0,
+    motor_velocity: VEC3_ZERO,
+    lower_twist_angle: 0.0,
+    upper_twist_angle: 0.0,
+    cone_angle: 0.0,
+    target_rotation: QUAT_IDENTITY,
+    index_a: NULL_INDEX,
+    index_b: NULL_INDEX,
+    frame_a: TRANSFORM_IDENTITY,
+    frame_b: TRANSFORM_IDENTITY,
+    delta_center: VEC3_ZERO,
+    swing_axis: VEC3_ZERO,
+    twist_jacobian: VEC3_ZERO,
+    rotation_mass: MAT3_ZERO,
+    swing_mass: 0.0,
+    twist_mass: 0.0,
+    spring_softness: NO_SOFTNESS,
+    enable_spring: false,
+    enable_motor: false,
+    enable_cone_limit: false,
+    enable_twist_limit: false,
+};
+
 pub struct WeldJoint {
     pub linear_hertz: f32,
     pub linear_damping_ratio: f32,
@@ -109,6 +176,24 @@ pub struct WeldJoint {
 
     pub angular_mass: Matrix3,
 }
+
+// The Rust's default.
+pub const DEFAULT_WELD_JOINT: WeldJoint = WeldJoint {
+    linear_hertz: 0.0,
+    linear_damping_ratio: 0.0,
+    angular_hertz: 0.0,
+    angular_damping_ratio: 0.0,
+    linear_spring: NO_SOFTNESS,
+    angular_spring: NO_SOFTNESS,
+    linear_impulse: VEC3_ZERO,
+    angular_impulse: VEC3_ZERO,
+    index_a: NULL_INDEX,
+    index_b: NULL_INDEX,
+    frame_a: TRANSFORM_IDENTITY,
+    frame_b: TRANSFORM_IDENTITY,
+    delta_center: VEC3_ZERO,
+    angular_mass: MAT3_ZERO,
+};
 
 // The joint's kind with its record. The kinds that are not ported share one empty case.
 pub enum JointUnion {
@@ -153,25 +238,28 @@ pub struct JointSim {
     pub union_: JointUnion,
 }
 
-// A joint that is not in use: the Rust's default of JointSim, with the empty case.
+// The Rust's default of JointSim, all but the union.
+pub const DEFAULT_JOINT_BASE: JointBase = JointBase {
+    joint_id: NULL_INDEX,
+    body_id_a: NULL_INDEX,
+    body_id_b: NULL_INDEX,
+    type_: JointType::Distance,
+    local_frame_a: TRANSFORM_IDENTITY,
+    local_frame_b: TRANSFORM_IDENTITY,
+    inv_mass_a: 0.0,
+    inv_mass_b: 0.0,
+    inv_i_a: MAT3_ZERO,
+    inv_i_b: MAT3_ZERO,
+    constraint_hertz: 0.0,
+    constraint_damping_ratio: 0.0,
+    constraint_softness: NO_SOFTNESS,
+    force_threshold: 0.0,
+    torque_threshold: 0.0,
+    fixed_rotation: false,
+};
+
+// A joint that is not in use: the default, with the empty case.
 pub const UNUSED_JOINT: JointSim = JointSim {
-    base: JointBase {
-        joint_id: NULL_INDEX,
-        body_id_a: NULL_INDEX,
-        body_id_b: NULL_INDEX,
-        type_: JointType::Distance,
-        local_frame_a: TRANSFORM_IDENTITY,
-        local_frame_b: TRANSFORM_IDENTITY,
-        inv_mass_a: 0.0,
-        inv_mass_b: 0.0,
-        inv_i_a: MAT3_ZERO,
-        inv_i_b: MAT3_ZERO,
-        constraint_hertz: 0.0,
-        constraint_damping_ratio: 0.0,
-        constraint_softness: NO_SOFTNESS,
-        force_threshold: 0.0,
-        torque_threshold: 0.0,
-        fixed_rotation: false,
-    },
+    base: DEFAULT_JOINT_BASE,
     union_: JointUnion::Other,
 };

@@ -26,7 +26,7 @@ use Rattle.records.specs.declared.joint.RevoluteJoint.{RevoluteJoint}
 use Rattle.records.specs.declared.joint.JointBase.{JointBase}
 use Rattle.records.specs.declared.joint.JointSim.{JointSim}
 use Rattle.records.specs.declared.joint.JointUnion.the-variants.{Revolute}
-use Rattle.records.specs.Joint.{asRevolute}
+use Rattle.records.specs.Joint.{asRevolute, jointSim}
 use Rattle.constraint.specs.declared.velocity.Velocities.{Velocities}
 use Rattle.constraint.specs.declared.velocity.InvMasses.{InvMasses}
 use Rattle.constraint.specs.declared.rotation.RelativeRotation.{RelativeRotation}
@@ -43,7 +43,7 @@ use Rattle.constraint.specs.Rotation.{flippedRelativeRotation}
 use Rattle.constraint.specs.Angular.{axialRow, row3, isWorked, twistLimitRows}
 use Rattle.constraint.specs.Point.{pointBias, pointMass, pointCdot}
 use Rattle.constraint.specs.Prepare.{prepareBase, prepareFrame, awakeIndex, axialMass}
-use Rattle.constraint.specs.Answer.{jointSim, prepared, notPrepared, warmStarted, notWarmStarted, solved, notSolved}
+use Rattle.constraint.specs.Answer.{prepared, notPrepared, warmStarted, notWarmStarted, solved, notSolved}
 use Rattle.revolute.specs.declared.rows.PerpRow.{PerpRow}
 use Rattle.revolute.specs.declared.stages.RevolutePrepared.{RevolutePrepared}
 use Rattle.revolute.specs.declared.stages.RevoluteSolved.{RevoluteSolved}

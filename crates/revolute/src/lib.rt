@@ -1,7 +1,7 @@
 // The revolute joint: a hinge, which lets two bodies turn about one axis, with a spring, a motor and
 // limits. Its three stages, over a joint of any kind.
 ghost use mathlib.Core.Path.{_≡_};
-ghost use Rattle.constraint.specs.Answer.{jointSim};
+ghost use Rattle.records.specs.Joint.{jointSim};
 ghost use Rattle.records.specs.declared.joint.JointUnion.the-variants.{Revolute};
 ghost use Rattle.revolute.specs.Revolute as D;
 use crate::stages::prepare_revolute;

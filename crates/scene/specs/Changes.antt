@@ -15,11 +15,10 @@ use Rattle.records.specs.Body.{isDynamic, identityBodyState}
 use Rattle.constraint.specs.declared.velocity.Velocities.{Velocities}
 use Rattle.scene.specs.declared.Scene.{Scene}
 use Rattle.scene.specs.Reorder.{runAll}
-use Rattle.records.specs.Joint.{unusedJoint}
+use Rattle.records.specs.Joint.{unusedJoint, jointSim}
 use Rattle.joint.specs.Index.{indexA, indexB}
 use Rattle.scene.specs.Scene.{jointAt, bodyAt, Dynamic, NamesBody, Names}
 use Rattle.scene.specs.Calls.{Call, Listed, Solved}
-use Rattle.constraint.specs.Answer.{jointSim}
 use Rattle.scene.specs.Stages.{warm-keeps}
 use Rattle.scene.specs.Plain.{stageAt, storeBoth, step}
 use Rattle.scene.specs.Claims.{OnlyVelocities, OnlyChanges}

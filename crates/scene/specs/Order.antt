@@ -13,12 +13,11 @@ use Rattle.records.specs.declared.body.BodyState.{BodyState}
 use Rattle.records.specs.declared.joint.JointUnion.{JointUnion}
 use Rattle.records.specs.declared.joint.JointSim.{JointSim}
 use Rattle.records.specs.Body.{isDynamic, identityBodyState}
-use Rattle.constraint.specs.Answer.{jointSim}
+use Rattle.records.specs.Joint.{jointSim, unusedJoint}
 use Rattle.joint.specs.Stage.{Staged, stageJoint}
 use Rattle.scene.specs.declared.Scene.{Scene}
 use Rattle.scene.specs.Keep.{keepIf}
 use Rattle.scene.specs.Reorder.{runAll, Steps, or-left, or-right, reorder}
-use Rattle.records.specs.Joint.{unusedJoint}
 use Rattle.joint.specs.Index.{indexA, indexB}
 use Rattle.scene.specs.Scene.{jointAt, Dynamic, Names, ShareDynamic}
 use Rattle.scene.specs.Calls.{Call, calls, onlyOf, onlyOfTwo}

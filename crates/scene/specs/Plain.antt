@@ -12,14 +12,13 @@ use Rattle.records.specs.declared.joint.JointSim.{JointSim}
 use Rattle.records.specs.declared.joint.JointUnion.{JointUnion}
 use Rattle.records.specs.Body.{identityBodyState}
 use Rattle.constraint.specs.declared.velocity.Velocities.{Velocities}
-use Rattle.constraint.specs.Answer.{jointSim}
+use Rattle.records.specs.Joint.{jointSim, isOther}
 use Rattle.joint.specs.Stage.{Staged, stageJoint}
 use Rattle.scene.specs.declared.Scene.{Scene}
 use Rattle.scene.specs.declared.Verdict.{Verdict}
 use Rattle.scene.specs.declared.Run.{Run}
 use Rattle.scene.specs.Reorder.{runAll}
 use Rattle.joint.specs.Index.{indexA, indexB, indexCause}
-use Rattle.records.specs.Joint.{isOther}
 use Rattle.scene.specs.Scene.{jointAt, stateAt, store}
 use Rattle.scene.specs.Calls.{Call, calls}
 

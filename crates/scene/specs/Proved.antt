@@ -14,7 +14,7 @@ use Rattle.records.specs.declared.joint.JointBase.{JointBase}
 use Rattle.records.specs.declared.joint.JointUnion.{JointUnion}
 use Rattle.records.specs.declared.joint.JointUnion.the-variants.{Other}
 use Rattle.records.specs.declared.joint.JointSim.{JointSim}
-use Rattle.constraint.specs.Answer.{jointSim}
+use Rattle.records.specs.Joint.{jointSim}
 use Rattle.joint.specs.Stage.{stageJoint}
 use Rattle.scene.specs.declared.Scene.{Scene}
 use Rattle.scene.specs.Scene.{jointAt, bodyAt}

@@ -13,11 +13,10 @@ use Rattle.records.specs.declared.body.BodyState.{BodyState}
 use Rattle.records.specs.declared.joint.JointBase.{JointBase}
 use Rattle.records.specs.declared.joint.JointUnion.{JointUnion}
 use Rattle.records.specs.declared.joint.JointSim.{JointSim}
-use Rattle.constraint.specs.Answer.{jointSim}
+use Rattle.records.specs.Joint.{jointSim, unusedJoint}
 use Rattle.joint.specs.Stage.{stageJoint}
 use Rattle.scene.specs.declared.Scene.{Scene}
 use Rattle.scene.specs.Reorder.{runAll}
-use Rattle.records.specs.Joint.{unusedJoint}
 use Rattle.scene.specs.Scene.{jointAt}
 use Rattle.scene.specs.Calls.{Call, Solved}
 use Rattle.scene.specs.Plain.{stageAt, step}

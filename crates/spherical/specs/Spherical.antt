@@ -23,7 +23,7 @@ use Rattle.records.specs.declared.joint.JointBase.{JointBase}
 use Rattle.records.specs.declared.joint.JointSim.{JointSim}
 use Rattle.records.specs.declared.joint.JointUnion.the-variants.{Spherical}
 use Rattle.records.specs.declared.joint.SphericalJoint.{SphericalJoint}
-use Rattle.records.specs.Joint.{asSpherical}
+use Rattle.records.specs.Joint.{asSpherical, jointSim}
 use Rattle.constraint.specs.declared.velocity.Velocities.{Velocities}
 use Rattle.constraint.specs.declared.velocity.InvMasses.{InvMasses}
 use Rattle.constraint.specs.declared.rotation.RelativeRotation.{RelativeRotation}
@@ -39,7 +39,7 @@ use Rattle.constraint.specs.Rotation.{relativeRotation}
 use Rattle.constraint.specs.Angular.{axialRow, row3, isWorked, upperLimitRow, angularRow, twistLimitRows}
 use Rattle.constraint.specs.Point.{pointBias, pointMass, pointCdot}
 use Rattle.constraint.specs.Prepare.{prepareBase, awakeIndex, prepareFrame, axialMass}
-use Rattle.constraint.specs.Answer.{jointSim, prepared, notPrepared, warmStarted, notWarmStarted, solved, notSolved}
+use Rattle.constraint.specs.Answer.{prepared, notPrepared, warmStarted, notWarmStarted, solved, notSolved}
 use Rattle.spherical.specs.declared.prepare.LimitAxis.{LimitAxis}
 use Rattle.spherical.specs.declared.prepare.SphericalPrepared.{SphericalPrepared}
 use Rattle.spherical.specs.declared.stages.SphericalSolved.{SphericalSolved}

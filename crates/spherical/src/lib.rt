@@ -1,7 +1,7 @@
 // The ball joint: prepare, warm start and solve. A joint whose case is not spherical gets number 1,
 // and comes back as it was.
 ghost use mathlib.Core.Path.{_≡_};
-ghost use Rattle.constraint.specs.Answer.{jointSim};
+ghost use Rattle.records.specs.Joint.{jointSim};
 ghost use Rattle.records.specs.declared.joint.JointUnion.the-variants.{Spherical};
 ghost use Rattle.spherical.specs.Spherical as D;
 use crate::prepare::prepare_spherical;

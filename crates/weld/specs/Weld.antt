@@ -21,7 +21,7 @@ use Rattle.records.specs.declared.joint.WeldJoint.{WeldJoint}
 use Rattle.records.specs.declared.joint.JointBase.{JointBase}
 use Rattle.records.specs.declared.joint.JointSim.{JointSim}
 use Rattle.records.specs.declared.joint.JointUnion.the-variants.{Weld}
-use Rattle.records.specs.Joint.{asWeld}
+use Rattle.records.specs.Joint.{asWeld, jointSim}
 use Rattle.constraint.specs.declared.velocity.Velocities.{Velocities}
 use Rattle.constraint.specs.declared.velocity.InvMasses.{InvMasses}
 use Rattle.constraint.specs.declared.soft.SoftBias3.{SoftBias3}
@@ -36,7 +36,7 @@ use Rattle.constraint.specs.Rotation.{flippedRelativeRotation}
 use Rattle.constraint.specs.Angular.{row3, angularRow}
 use Rattle.constraint.specs.Point.{pointBias, pointCdotGrouped, pointMass}
 use Rattle.constraint.specs.Prepare.{prepareBase, awakeIndex, prepareFrame}
-use Rattle.constraint.specs.Answer.{jointSim, prepared, notPrepared, warmStarted, notWarmStarted, solved, notSolved}
+use Rattle.constraint.specs.Answer.{prepared, notPrepared, warmStarted, notWarmStarted, solved, notSolved}
 use Rattle.weld.specs.declared.stages.WeldPrepared.{WeldPrepared}
 use Rattle.weld.specs.declared.stages.WeldSolved.{WeldSolved}
 

@@ -1,7 +1,7 @@
 // The weld joint: a rigid connection (optionally softened by linear/angular springs) that locks the
 // relative position and orientation of two frames. Its three stages, over a joint of any kind.
 ghost use mathlib.Core.Path.{_≡_};
-ghost use Rattle.constraint.specs.Answer.{jointSim};
+ghost use Rattle.records.specs.Joint.{jointSim};
 ghost use Rattle.records.specs.declared.joint.JointUnion.the-variants.{Weld};
 ghost use Rattle.weld.specs.Weld as D;
 use crate::stages::prepare_weld;

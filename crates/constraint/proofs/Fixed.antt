@@ -1,16 +1,12 @@
 -- When prepare fixes the rotation: by the determinant of the sum of the two inverse inertias, for every base and every two bodies. Assumes nothing.
 use mathlib.Core.Path.{_≡_, refl, ap, _∙_}
 use mathlib.Core.Bool.{true, false}
-use lib.Ieee.{Float, nan}
+use lib.Ieee.{nan}
 use Rattle.math_functions.specs.Float.{lt, zero, threshold}
 use Rattle.math_functions.specs.Facts.{negative-below-threshold, nan-not-below-threshold}
-use Rattle.math_functions.specs.Matrix.{det, addMm}
 use Rattle.records.specs.declared.body.BodyRecord.{BodyRecord}
 use Rattle.records.specs.declared.joint.JointBase.{JointBase}
-use Rattle.constraint.specs.Prepare.{prepareBase}
-
-abbrev pub inertiaDet : BodyRecord → BodyRecord → Float
-inertiaDet bodyA bodyB = det (addMm (bodyA .«inv_inertia_world») (bodyB .«inv_inertia_world»))
+use Rattle.constraint.specs.Prepare.{inertiaDet, prepareBase}
 
 module _ (base : JointBase) (bodyA bodyB : BodyRecord) where
   -- it is fixed exactly where the determinant compares below the threshold

@@ -1,4 +1,5 @@
--- What the kinds' facts lean on: a limit row's impulse is zero or positive and never a NaN, whatever the row is handed; and what a stage leaves of a joint of any kind. Assumes nothing.
+-- What the kinds' facts lean on: a limit row's impulse is zero or positive and never a NaN, whatever the row is handed; and what a stage leaves of a joint of
+-- any kind. Assumes nothing.
 use mathlib.Core.Path.{_≡_, refl}
 use mathlib.Core.Bool.{Bool, true, false, cond, _||_}
 use mathlib.Core.Option.{Option, none, some, Option·elim}
@@ -16,11 +17,8 @@ use Rattle.constraint.specs.declared.velocity.Velocities.{Velocities}
 use Rattle.constraint.specs.declared.velocity.InvMasses.{InvMasses}
 use Rattle.constraint.specs.declared.soft.SoftBias.{SoftBias}
 use Rattle.constraint.specs.Soft.{limitImpulse}
-use Rattle.constraint.specs.Angular.{isWorked, lowerLimitRow, upperLimitRow, twistLimitRows}
-
--- 0.0 <= x by the float comparison, which is false for a NaN
-pub record NonNegative (x : Float) : Type 0 where
-  pub compares : Ieee.le zero x ≡ true
+use Rattle.constraint.specs.Angular.{isWorked, lowerLimitRow, upperLimitRow, TwistLimit, twistLimitRows}
+use Rattle.constraint.specs.Claims.{NonNegative, AtMostOne, BothOfKind}
 
 pub maxFloat-nonNegative : (x : Float) → NonNegative (maxFloat x zero)
 unfolding maxFloat Ieee.le Ieee.ofBits
@@ -34,11 +32,13 @@ pub limitImpulse-nonNegative : (s : SoftBias) (mass cdot old : Float) → NonNeg
 unfolding limitImpulse
 limitImpulse-nonNegative s mass cdot old = maxFloat-nonNegative _
 
-pub lowerLimitRow-nonNegative : (s : SoftBias) (mass : Float) (axis : Vec3) (old : Float) (m : InvMasses) (v : Velocities) → NonNegative (lowerLimitRow s mass axis old m v .impulse)
+pub lowerLimitRow-nonNegative : (s : SoftBias) (mass : Float) (axis : Vec3) (old : Float) (m : InvMasses) (v : Velocities) → NonNegative
+    (lowerLimitRow s mass axis old m v .impulse)
 unfolding lowerLimitRow
 lowerLimitRow-nonNegative s mass axis old m v = limitImpulse-nonNegative _ _ _ _
 
-pub upperLimitRow-nonNegative : (s : SoftBias) (mass : Float) (axis : Vec3) (old : Float) (m : InvMasses) (v : Velocities) → NonNegative (upperLimitRow s mass axis old m v .impulse)
+pub upperLimitRow-nonNegative : (s : SoftBias) (mass : Float) (axis : Vec3) (old : Float) (m : InvMasses) (v : Velocities) → NonNegative
+    (upperLimitRow s mass axis old m v .impulse)
 unfolding upperLimitRow
 upperLimitRow-nonNegative s mass axis old m v = limitImpulse-nonNegative _ _ _ _
 
@@ -48,35 +48,22 @@ unfolding isWorked
 worked on free = rw (on, free)
 
 -- a worked pair of limit rows
-module _ (angle lowerAngle upperAngle : Float) (s : Softness) (invH : Float) (useBias : Bool) (mass : Float) (axis : Vec3) (oldLower oldUpper : Float) (m : InvMasses) (v : Velocities) where
-  pub twist-lower-nonNegative : NonNegative (twistLimitRows true angle lowerAngle upperAngle s invH useBias mass axis oldLower oldUpper m v .«lower_impulse»)
+module _ (l : TwistLimit) (s : Softness) (invH : Float) (useBias : Bool) (m : InvMasses) (v : Velocities) where
+  pub twist-lower-nonNegative : NonNegative (twistLimitRows true l s invH useBias m v .«lower_impulse»)
   unfolding twistLimitRows
   twist-lower-nonNegative = lowerLimitRow-nonNegative _ _ _ _ _ _
 
-  pub twist-upper-nonNegative : NonNegative (twistLimitRows true angle lowerAngle upperAngle s invH useBias mass axis oldLower oldUpper m v .«upper_impulse»)
+  pub twist-upper-nonNegative : NonNegative (twistLimitRows true l s invH useBias m v .«upper_impulse»)
   unfolding twistLimitRows
   twist-upper-nonNegative = upperLimitRow-nonNegative _ _ _ _ _ _
 
 -- ---- a stage over a joint of any kind: `found` is the record of the kind called, where the joint has it; `refusal` answers for every other joint
-
--- a stage's number is 0 or 1, and its place 0
-pub record AtMostOne (number place : ℕ) : Type 0 where
-  pub number-bound : number ≤ 1
-  pub place-zero : place ≡ 0
 
 pub zero-at-most : AtMostOne 0 0
 zero-at-most = record { number-bound = omega arith; place-zero = refl }
 
 pub one-at-most : AtMostOne 1 0
 one-at-most = record { number-bound = omega arith; place-zero = refl }
-
--- two joints are of the kind, and `P` holds of their records
-pub record BothOfKind {K : Type 0} (kindOf : JointUnion → Option K) (P : K → K → Type 0) (before after : JointUnion) : Type 0 where
-  pub joint : K
-  pub next : K
-  pub was : kindOf before ≡ some joint
-  pub became : kindOf after ≡ some next
-  pub holds : P joint next
 
 module _ {K A : Type 0} where
   -- what holds of the refusal and of every work
@@ -86,10 +73,12 @@ module _ {K A : Type 0} where
   always P (some k) refusal work p q = q k
 
   -- what a refusal and every work leave alike
-  pub kept : {B : Type 0} (f : A → B) (b : B) (found : Option K) (refusal : A) (work : K → A) → f refusal ≡ b → ((k : K) → f (work k) ≡ b) → f (Option·elim found refusal work) ≡ b
+  pub kept : {B : Type 0} (f : A → B) (b : B) (found : Option K) (refusal : A) (work : K → A) → f refusal ≡ b → ((k : K) → f (work k) ≡ b) → f
+      (Option·elim found refusal work) ≡ b
   kept f b found refusal work p q = always (λ a. f a ≡ b) found refusal work p q
 
-  pub numbered : (number : A → ℕ) (found : Option K) (refusal : A) (work : K → A) → number refusal ≡ 1 → ((k : K) → number (work k) ≡ 0) → number (Option·elim found refusal work) ≡ cond (isSome found) 0 1
+  pub numbered : (number : A → ℕ) (found : Option K) (refusal : A) (work : K → A) → number refusal ≡ 1 → ((k : K) → number (work k) ≡ 0) → number
+      (Option·elim found refusal work) ≡ cond (isSome found) 0 1
   unfolding Option·elim
   numbered number none refusal work p q = p
   numbered number (some k) refusal work p q = q k
@@ -100,7 +89,8 @@ module _ {K A : Type 0} where
   refused (some k) refusal work e = cc
 
   -- a joint of the kind stays one, and no other becomes one
-  pub case-kept : (union : A → JointUnion) (kindOf : JointUnion → Option K) (u : JointUnion) (refusal : A) (work : K → A) → union refusal ≡ u → ((k : K) → isSome (kindOf (union (work k))) ≡ true) → isSome (kindOf (union (Option·elim (kindOf u) refusal work))) ≡ isSome (kindOf u)
+  pub case-kept : (union : A → JointUnion) (kindOf : JointUnion → Option K) (u : JointUnion) (refusal : A) (work : K → A) → union refusal ≡ u →
+      ((k : K) → isSome (kindOf (union (work k))) ≡ true) → isSome (kindOf (union (Option·elim (kindOf u) refusal work))) ≡ isSome (kindOf u)
   unfolding Option·elim
   case-kept union kindOf u refusal work p q = go (kindOf u) refl
     where
