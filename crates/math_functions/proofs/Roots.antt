@@ -9,8 +9,8 @@ use lib.IntN.{ℤ, pos}
 use lib.Ieee as Ieee
 use lib.Ieee.{Float, nan, inf, fin, binary32, up, down}
 use Rattle.sqrt.specs.Sqrt.{sqrt, rootOf}
-use Rattle.sqrt.specs.Units.{inUnits}
-use Rattle.sqrt.specs.Rounding.{droppedOf, roundedOf, rootOf-is}
+use Rattle.sqrt.specs.Nearest.{inUnits}
+use Rattle.sqrt.proofs.Rounding.{droppedOf, roundedOf, rootOf-is}
 use Rattle.math_functions.specs.Float.{lt}
 use Rattle.math_functions.specs.Float as Float
 

@@ -13,7 +13,7 @@ use lib.Ieee.Digits.{back}
 use lib.Ieee.Exact.{HasValue, round-exact}
 use lib.Ieee.Fits.{round-fits, down-pos, and-l, and-r}
 use lib.Ieee.Nearest.{div-same}
-use Rattle.sqrt.specs.Units.{digits, units-lt, patternOf, toBits-units}
+use Rattle.sqrt.proofs.Units.{digits, units-lt, patternOf, toBits-units}
 use Rattle.math_functions.specs.Float.{_⊗_, one}
 
 -- a finite value that fits is a whole number of the format's smallest values

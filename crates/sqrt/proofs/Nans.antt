@@ -20,4 +20,6 @@ inf-below-top binary64 = lit< tt
 pub finite-no-nan : (f : Format) (b : ℕ) → b < ones f * hid f → T (not (nanBits f b))
 finite-no-nan f b h =
     subst (λ (t : Bool). T (not t)) (sym (nanBits-above f b))
-    (not-T (ltb (ones f * hid f) (b % top f)) (λ t. lt-irrefl b (lt-trans h (subst (λ (x : ℕ). ones f * hid f < x) (mod-eq-of-lt (lt-trans h (inf-below-top f))) (ltb→lt (ones f * hid f) (b % top f) t)))))
+    (not-T (ltb (ones f * hid f) (b % top f)) (λ t.
+    lt-irrefl b (lt-trans h
+    (subst (λ (x : ℕ). ones f * hid f < x) (mod-eq-of-lt (lt-trans h (inf-below-top f))) (ltb→lt (ones f * hid f) (b % top f) t)))))

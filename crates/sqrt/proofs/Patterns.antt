@@ -11,7 +11,8 @@ use lib.Ieee.{Float, nan, inf, fin, binary32, odd, units, minus, ofFields, ofBit
 use lib.Ieee.Bits.{is-true, is-false, cond-no}
 use lib.Ieee.Exact.{HasValue, odd-sign}
 use lib.Ieee.Positive.{positive, positive-of-value}
-use Rattle.sqrt.specs.Units.{inUnits, value-units}
+use Rattle.sqrt.specs.Nearest.{inUnits}
+use Rattle.sqrt.proofs.Units.{value-units}
 
 -- ---- reading a pattern: the number that its exponent field x and its digits t stand for, in units of 2 ^ -149
 abbrev pub unitsIn : ℕ → ℕ → ℕ
@@ -28,7 +29,8 @@ ofBits-is b = refl
 sign-clear : (b : ℕ) → b < 0x8000_0000 → ofBits binary32 b ≡ ofFields binary32 false (b / 2 ^ 23) (b % 2 ^ 23)
 sign-clear b u =
     ofBits-is b
-    ∙ ap (λ (s : Bool). ofFields binary32 s (b % 0x8000_0000 / 2 ^ 23) (b % 2 ^ 23)) (is-false (leb 0x8000_0000 b) (not-T (leb 0x8000_0000 b) (λ (t : T (leb 0x8000_0000 b)). not-le-of-lt u (leb→le 0x8000_0000 b t))))
+    ∙ ap (λ (s : Bool). ofFields binary32 s (b % 0x8000_0000 / 2 ^ 23) (b % 2 ^ 23))
+    (is-false (leb 0x8000_0000 b) (not-T (leb 0x8000_0000 b) (λ (t : T (leb 0x8000_0000 b)). not-le-of-lt u (leb→le 0x8000_0000 b t))))
     ∙ ap (λ (x : ℕ). ofFields binary32 false (x / 2 ^ 23) (b % 2 ^ 23)) (mod-eq-of-lt u)
 
 at-zero : (s : Bool) (t : ℕ) → ofFields binary32 s 0 t ≡ odd 24 s t 0 149
@@ -40,12 +42,16 @@ differ x h e = omega arith
 
 under-ones : (s : Bool) (t x : ℕ) → suc x < 255 → ofFields binary32 s (suc x) t ≡ odd 24 s (2 ^ 23 + t) x 149
 unfolding ofFields
-under-ones s t x h = cond-no (eqb (suc x) 255) (cond (eqb t 0) (inf s) nan) (odd 24 s (2 ^ 23 + t) x 149) (not-T (eqb (suc x) 255) (λ (u : T (eqb (suc x) 255)). differ x h (eqb→eq (suc x) 255 u)))
+under-ones s t x h =
+    cond-no (eqb (suc x) 255) (cond (eqb t 0) (inf s) nan) (odd 24 s (2 ^ 23 + t) x 149)
+    (not-T (eqb (suc x) 255) (λ (u : T (eqb (suc x) 255)). differ x h (eqb→eq (suc x) 255 u)))
 
 fields-value : (x t : ℕ) → x < 255 → HasValue (ofFields binary32 false x t) false (unitsIn x t) (2 ^ 149)
 fields-value zero t h =
-    subst (λ (v : Float). HasValue v false t (2 ^ 149)) (sym (at-zero false t)) (subst (λ (a : ℕ). HasValue (odd 24 false t 0 149) false a (2 ^ 149)) (mul-one t) (odd-sign 24 false t 0 149))
-fields-value (suc x) t h = subst (λ (v : Float). HasValue v false ((2 ^ 23 + t) * 2 ^ x) (2 ^ 149)) (sym (under-ones false t x h)) (odd-sign 24 false (2 ^ 23 + t) x 149)
+    subst (λ (v : Float). HasValue v false t (2 ^ 149)) (sym (at-zero false t))
+    (subst (λ (a : ℕ). HasValue (odd 24 false t 0 149) false a (2 ^ 149)) (mul-one t) (odd-sign 24 false t 0 149))
+fields-value (suc x) t h =
+    subst (λ (v : Float). HasValue v false ((2 ^ 23 + t) * 2 ^ x) (2 ^ 149)) (sym (under-ones false t x h)) (odd-sign 24 false (2 ^ 23 + t) x 149)
 
 small : (b : ℕ) → b < 0x7f80_0000 → b < 0x8000_0000
 small b h = omega arith
@@ -54,7 +60,9 @@ field-lt : (b : ℕ) → b < 0x7f80_0000 → b / 2 ^ 23 < 255
 field-lt b h = omega arith
 
 bits-value : (b : ℕ) → b < 0x7f80_0000 → HasValue (ofBits binary32 b) false (unitsOf b) (2 ^ 149)
-bits-value b h = subst (λ (v : Float). HasValue v false (unitsOf b) (2 ^ 149)) (sym (sign-clear b (small b h))) (fields-value (b / 2 ^ 23) (b % 2 ^ 23) (field-lt b h))
+bits-value b h =
+    subst (λ (v : Float). HasValue v false (unitsOf b) (2 ^ 149)) (sym (sign-clear b (small b h)))
+    (fields-value (b / 2 ^ 23) (b % 2 ^ 23) (field-lt b h))
 
 pub bits-units : (b : ℕ) → b < 0x7f80_0000 → inUnits (ofBits binary32 b) ≡ unitsIn (b / 2 ^ 23) (b % 2 ^ 23)
 bits-units b h = value-units (ofBits binary32 b) false (unitsOf b) (bits-value b h)
@@ -79,7 +87,8 @@ tz-more (suc d) q p h = go (q % 2) refl (λ g. tz-more d (q / 2) g (div-lt-iff-l
     half-pos : (q : ℕ) → 0 < q → q % 2 ≡ 0 → 0 < q / 2
     half-pos q h e = omega arith
 
-    go : (r : ℕ) → q % 2 ≡ r → (0 < q / 2 → trailingZeros (suc d) (q / 2) ≡ trailingZeros d (q / 2)) → under r (trailingZeros (suc d) (q / 2)) ≡ under r (trailingZeros d (q / 2))
+    go : (r : ℕ) → q % 2 ≡ r → (0 < q / 2 → trailingZeros (suc d) (q / 2) ≡ trailingZeros d (q / 2))
+        → under r (trailingZeros (suc d) (q / 2)) ≡ under r (trailingZeros d (q / 2))
     go zero e ih = ap suc (ih (half-pos q p e))
     go (suc r) e ih = refl
 

@@ -6,9 +6,9 @@ use native.Mathlib.Omega.{arith}
 use lib.Pow.{pow-add, pow-pos}
 use lib.Ieee.{binary32, ofBits}
 use Rattle.sqrt.specs.Sqrt.{sqrt}
-use Rattle.sqrt.specs.Units.{inUnits}
-use Rattle.sqrt.specs.Nearest.{sqrt-rootOf}
+use Rattle.sqrt.specs.Nearest.{inUnits}
 use Rattle.sqrt.specs.Steps.{Unpacks, NearestRoot}
+use Rattle.sqrt.proofs.Nearest.{sqrt-rootOf}
 use Rattle.sqrt.proofs.Scaled.{rootOf-near}
 use Rattle.sqrt.proofs.Patterns.{bits-positive, units-bits}
 
@@ -38,14 +38,18 @@ scaled u m e n w k v is sum =
     (mul-right-comm u (2 ^ 149) (2 ^ 24)
     ∙ ap (λ (x : ℕ). x * 2 ^ 149) (sym v)
     ∙ mul-assoc m (2 ^ e) (2 ^ 149)
-    ∙ ap (λ (x : ℕ). m * x) (sym (pow-add 2 e 149) ∙ ap (λ (x : ℕ). 2 ^ x) (places w (k + k) e sum) ∙ pow-add 2 (w + (k + k)) 24 ∙ ap (λ (x : ℕ). x * 2 ^ 24) (pow-add 2 w (k + k) ∙ ap (λ (x : ℕ). 2 ^ w * x) (pow-add 2 k k)))
+    ∙ ap (λ (x : ℕ). m * x) (sym (pow-add 2 e 149)
+    ∙ ap (λ (x : ℕ). 2 ^ x) (places w (k + k) e sum)
+    ∙ pow-add 2 (w + (k + k)) 24
+    ∙ ap (λ (x : ℕ). x * 2 ^ 24) (pow-add 2 w (k + k) ∙ ap (λ (x : ℕ). 2 ^ w * x) (pow-add 2 k k)))
     ∙ sym (mul-assoc m (2 ^ w * (2 ^ k * 2 ^ k)) (2 ^ 24))
     ∙ ap (λ (x : ℕ). x * 2 ^ 24) (sym (mul-assoc m (2 ^ w) (2 ^ k * 2 ^ k)) ∙ ap (λ (x : ℕ). x * (2 ^ k * 2 ^ k)) (sym is)))
   where
     places : (w d e : ℕ) → w + d ≡ e + 125 → e + 149 ≡ w + d + 24
     places w d e h = omega arith
 
-root-bits-at : (b m e n r w k : ℕ) → 0 < b → b < 0x7f80_0000 → Unpacks b m e → n ≡ m * 2 ^ w → w + (k + k) ≡ e + 125 → 2 ^ 46 ≤ n → n ≤ 2 ^ 48 - 2 ^ 24 → k < 253 → NearestRoot n r
+root-bits-at : (b m e n r w k : ℕ) → 0 < b → b < 0x7f80_0000 → Unpacks b m e → n ≡ m * 2 ^ w → w + (k + k) ≡ e + 125
+    → 2 ^ 46 ≤ n → n ≤ 2 ^ 48 - 2 ^ 24 → k < 253 → NearestRoot n r
     → (ofBits binary32 (k * 2 ^ 23 + r) ≡ sqrt (ofBits binary32 b)) × (k * 2 ^ 23 + r < 0x7f80_0000)
 root-bits-at b m e n r w k pos fin sp is sum lo hi K near =
     let least : 2 ^ 23 ≤ r = near-least n r lo near in

@@ -1,7 +1,10 @@
--- What `rootOf` gives, from a number N of 47 or 48 digits that is its argument but for a power of 4, and the whole number r nearest to N's root: r * 2 ^ k of the smallest values. Assumes nothing.
+-- What `rootOf` gives, from a number N of 47 or 48 digits that is its argument but for a power of 4, and the whole number r nearest to N's root:
+-- r * 2 ^ k of the smallest values. Assumes nothing.
 use mathlib.Core.Path.{_≡_, sym, ap, _∙_}
 use Prim.Native.Nat.{ℕ, zero, suc, _+_, _-_, _*_, _/_, _^_, _≤_, _<_}
-use native.Mathlib.Nat.{le-trans, le-of-eq, le-of-suc-le-suc, le-antisymm, lt-of-not-le, lt-of-lt-of-le, lt-of-le-of-lt, lt-irrefl, mul-assoc, mul-le-mul, mul-le-mul-right, mul-lt-mul-of-pos-right, mul-pos, lt-of-mul-lt-mul-right, le-of-mul-le-mul-right, div-lt-iff-lt-mul, le-div-iff-mul-le, mul-suc, suc-mul}
+use native.Mathlib.Nat.{le-trans, le-of-eq, le-of-suc-le-suc, le-antisymm, lt-of-not-le, lt-of-lt-of-le, lt-of-le-of-lt, lt-irrefl, mul-assoc, mul-le-mul}
+use native.Mathlib.Nat.{mul-le-mul-right, mul-lt-mul-of-pos-right, mul-pos, lt-of-mul-lt-mul-right, le-of-mul-le-mul-right, div-lt-iff-lt-mul}
+use native.Mathlib.Nat.{le-div-iff-mul-le, mul-suc, suc-mul}
 use native.Mathlib.Omega.{arith}
 use mathlib.Core.Bool.{Bool, true, false, not, cond}
 use lib.Dec.{T, ltb, ltb→lt, nltb→le}
@@ -9,10 +12,10 @@ use lib.Pow.{pow-add, pow-pos, pow-mono}
 use lib.Ieee.{binary32, size, units}
 use lib.Ieee.Digits.{size-le, size-lt}
 use Rattle.sqrt.specs.Sqrt.{isqrt, nearerOf, rootOf}
-use Rattle.sqrt.specs.Squares.{root-lt, square-mul, square-next, square-odd}
-use Rattle.sqrt.specs.Isqrt.{isqrt-le, isqrt-lt}
-use Rattle.sqrt.specs.Rounding.{rootOf-is}
 use Rattle.sqrt.specs.Steps.{NearestRoot}
+use Rattle.sqrt.proofs.Squares.{root-lt, square-mul, square-next, square-odd}
+use Rattle.sqrt.proofs.Isqrt.{isqrt-le, isqrt-lt}
+use Rattle.sqrt.proofs.Rounding.{rootOf-is}
 
 no-less : (n r s : ℕ) → NearestRoot n r → NearestRoot n s → r < s → ⊥
 no-less n r zero h k l = omega arith
@@ -25,7 +28,9 @@ no-less n r (suc t) h k l =
     omega arith
 
 near-unique : (n r s : ℕ) → NearestRoot n r → NearestRoot n s → r ≡ s
-near-unique n r s h k = le-antisymm (le-of-suc-le-suc (lt-of-not-le (λ (l : suc s ≤ r). no-less n s r k h l))) (le-of-suc-le-suc (lt-of-not-le (λ (l : suc r ≤ s). no-less n r s h k l)))
+near-unique n r s h k =
+    le-antisymm (le-of-suc-le-suc (lt-of-not-le (λ (l : suc s ≤ r). no-less n s r k h l)))
+    (le-of-suc-le-suc (lt-of-not-le (λ (l : suc r ≤ s). no-less n r s h k l)))
 
 module _ (N k a : ℕ) (lo : 2 ^ 46 ≤ N) (hi : N < 2 ^ 48) (is : a ≡ N * (2 ^ k * 2 ^ k)) where
   -- the root of N has 24 digits
@@ -45,12 +50,14 @@ module _ (N k a : ℕ) (lo : 2 ^ 46 ≤ N) (hi : N < 2 ^ 48) (is : a ≡ N * (2 
   over : isqrt N * 2 ^ k ≤ isqrt a
   over =
       le-of-suc-le-suc (root-lt (isqrt N * 2 ^ k) (suc (isqrt a))
-      (lt-of-le-of-lt (le-trans (le-of-eq (square-mul (isqrt N) (2 ^ k))) (le-trans (mul-le-mul-right (2 ^ k * 2 ^ k) (isqrt-le N)) (le-of-eq (sym is)))) (isqrt-lt a)))
+      (lt-of-le-of-lt (le-trans (le-of-eq (square-mul (isqrt N) (2 ^ k))) (le-trans (mul-le-mul-right (2 ^ k * 2 ^ k) (isqrt-le N)) (le-of-eq (sym is))))
+      (isqrt-lt a)))
 
   under : isqrt a < suc (isqrt N) * 2 ^ k
   under =
       root-lt (isqrt a) (suc (isqrt N) * 2 ^ k)
-      (lt-of-le-of-lt (le-trans (isqrt-le a) (le-of-eq is)) (lt-of-lt-of-le (mul-lt-mul-of-pos-right (isqrt-lt N) pp-pos) (le-of-eq (sym (square-mul (suc (isqrt N)) (2 ^ k))))))
+      (lt-of-le-of-lt (le-trans (isqrt-le a) (le-of-eq is))
+      (lt-of-lt-of-le (mul-lt-mul-of-pos-right (isqrt-lt N) pp-pos) (le-of-eq (sym (square-mul (suc (isqrt N)) (2 ^ k))))))
 
   kept : isqrt a / 2 ^ k ≡ isqrt N
   kept = le-antisymm (le-of-suc-le-suc (div-lt-iff-lt-mul p-pos .1 under)) (le-div-iff-mul-le p-pos .1 over)
@@ -64,7 +71,9 @@ module _ (N k a : ℕ) (lo : 2 ^ 46 ≤ N) (hi : N < 2 ^ 48) (is : a ≡ N * (2 
       at-least : 23 + k < size (isqrt a)
       at-least =
           lt-of-not-le (λ (g : size (isqrt a) ≤ 23 + k).
-          lt-irrefl (isqrt a) (lt-of-lt-of-le (size-lt (isqrt a)) (le-trans (pow-mono g) (le-trans (le-of-eq (pow-add 2 23 k)) (le-trans (mul-le-mul-right (2 ^ k) root-least) over)))))
+          lt-irrefl (isqrt a)
+          (lt-of-lt-of-le (size-lt (isqrt a))
+          (le-trans (pow-mono g) (le-trans (le-of-eq (pow-add 2 23 k)) (le-trans (mul-le-mul-right (2 ^ k) root-least) over)))))
 
       count : (z : ℕ) → z ≤ 24 + k → 23 + k < z → z - 24 ≡ k
       count z g h = omega arith

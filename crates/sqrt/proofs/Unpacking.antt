@@ -30,7 +30,10 @@ subnormal-unpacks b m e h lo hi few v =
 -- the digits of a normal number, with the leading one
 normal-value : (x t : ℕ) → 0 < x → (2 ^ 23 + t) * 2 ^ (x + 23) ≡ unitsIn x t * 2 ^ 24
 normal-value zero t h = omega arith
-normal-value (suc x) t h = ap (λ (y : ℕ). (2 ^ 23 + t) * 2 ^ y) (over x) ∙ ap (λ (y : ℕ). (2 ^ 23 + t) * y) (pow-add 2 x 24) ∙ sym (mul-assoc (2 ^ 23 + t) (2 ^ x) (2 ^ 24))
+normal-value (suc x) t h =
+    ap (λ (y : ℕ). (2 ^ 23 + t) * 2 ^ y) (over x)
+    ∙ ap (λ (y : ℕ). (2 ^ 23 + t) * y) (pow-add 2 x 24)
+    ∙ sym (mul-assoc (2 ^ 23 + t) (2 ^ x) (2 ^ 24))
   where
     over : (x : ℕ) → suc x + 23 ≡ x + 24
     over x = omega arith

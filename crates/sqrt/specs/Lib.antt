@@ -1,11 +1,6 @@
--- What `sqrt` computes (`Sqrt`), what is proved of that (`Isqrt`, `Nearest`, `Special`, `Examples`), and the words of the contracts of the functions it is made of (`Steps`).
--- `Squares`, `Units` and `Rounding` have the lemmas of those proofs.
+-- What `sqrt` computes (`Sqrt`), what is claimed of that (`Claims`, over `Nearest`), and the words of the contracts of the functions it is made
+-- of (`Steps`).
 pub mod Sqrt
-pub mod Squares
-pub mod Isqrt
-pub mod Units
-pub mod Rounding
 pub mod Nearest
-pub mod Special
-pub mod Examples
+pub mod Claims
 pub mod Steps

@@ -1,88 +1,36 @@
--- `sqrt` rounds to the nearest. For every x of binary32 that is finite and above zero, `sqrt x` is the float that is nearest to the root of x (`sqrt-nearest`), and the only one (`sqrt-only`), so
--- there are no ties. For every x of binary32, `sqrt x` is in binary32 (`sqrt-fits`). Assumes nothing.
-use mathlib.Core.Path.{_≡_, refl, sym, _∙_, subst}
-use Prim.Native.Nat.{ℕ, zero, suc, _*_, _^_, _≤_, _<_}
-use native.Mathlib.Nat.{lt-of-le-of-lt}
-use mathlib.Core.Bool.{Bool, true, false, cond}
-use lib.Dec.{T, ltb, ltb→lt, lit<}
-use lib.IntN.{ℤ}
-use lib.Ieee.{Float, nan, inf, fin, binary32, odd, units, fits}
-use lib.Ieee.Exact.{HasValue, units-val}
-use lib.Ieee.Fits.{odd-fits, nan-fits, inf-fits}
-use lib.Ieee.Positive.{positive}
-use Rattle.sqrt.specs.Sqrt.{rootOf, sqrt}
-use Rattle.sqrt.specs.Units.{inUnits, unsigned, value-units, value-unsigned, digits, few-digits, units-lt, units-pos, same-units}
-use Rattle.sqrt.specs.Rounding.{Nearer, nearer-once, nearerOf-nearer, droppedOf, keptOf, roundedOf, rootOf-is, kept-lo, kept-hi, kept-lead, rounded-le, rounded-lt, no-tie}
+-- Which float is the nearest to a root, over whole numbers: each finite value of binary32 is so many times the smallest one, 2 ^ -149.
+-- Definitions only. Assumes nothing.
+use Prim.Native.Nat.{ℕ, _+_, _*_, _/_, _^_, _<_}
+use mathlib.Core.Bool.{Bool, true, false}
+use lib.Dec.{T}
+use lib.Ieee.{Float, nan, inf, fin, binary32, up, down, fits}
+
+-- how many of binary32's smallest values a finite value is, its sign left out
+abbrev pub inUnits : Float → ℕ
+inUnits nan = 0
+inUnits (inf s) = 0
+inUnits (fin s m e) = m * up e * 2 ^ 149 / down e
+
+-- a finite value with the sign clear
+abbrev pub unsigned : Float → Bool
+unsigned nan = false
+unsigned (inf s) = false
+unsigned (fin true m e) = false
+unsigned (fin false m e) = true
 
 -- y is a finite float of binary32 and not below zero
 abbrev pub Candidate : Float → Type 0
 Candidate y = T (fits binary32 y) × T (unsigned y)
 
--- r is the candidate nearest to the root of x. In units of 2 ^ -149 the root of x is that of `inUnits x * 2 ^ 149`, and each other candidate y is further from it: the root lies on r's side
--- of the middle of the two (`Nearer`). A float below zero is further than +0, so it needs no comparison.
+-- R is nearer to √a than Y is, unless they are equal: √a lies on R's side of their middle, (R + Y) / 2.
+-- There are no real numbers here, so both sides are doubled and squared.
+pub record Nearer (a R Y : ℕ) : Type 0 where
+  pub above : R < Y → 4 * a < (R + Y) * (R + Y)
+  pub below : Y < R → (R + Y) * (R + Y) < 4 * a
+
+-- r is the candidate nearest to the root of x. In units of 2 ^ -149 the root of x is that of `inUnits x * 2 ^ 149`, and each other candidate y
+-- is further from it: the root lies on r's side of the middle of the two (`Nearer`). A float below zero is further than +0, so it needs no
+-- comparison.
 pub record Nearest (x r : Float) : Type 0 where
   pub candidate : Candidate r
   pub nearest : (y : Float) → Candidate y → Nearer (inUnits x * 2 ^ 149) (inUnits r) (inUnits y)
-
--- ---- binary32 holds every root of a value that it holds
-units-fits : (q k : ℕ) → q ≤ 2 ^ 24 → T (fits binary32 (units binary32 false q k))
-unfolding units
-units-fits q k a = go (ltb (q * 2 ^ k) (2 ^ 277)) (ltb→lt (q * 2 ^ k) (2 ^ 277))
-  where
-    go : (b : Bool) → (T b → q * 2 ^ k < 2 ^ 277) → T (fits binary32 (cond b (odd 25 false q k 149) (inf false)))
-    go true h = odd-fits binary32 25 false q k (lt-of-le-of-lt a (lit< tt)) a (h tt)
-    go false h = inf-fits binary32 false
-
-pub sqrt-fits : (x : Float) → T (fits binary32 x) → T (fits binary32 (sqrt x))
-unfolding sqrt
-sqrt-fits nan h = nan-fits binary32
-sqrt-fits (inf true) h = nan-fits binary32
-sqrt-fits (inf false) h = inf-fits binary32 false
-sqrt-fits (fin s zero e) h = h
-sqrt-fits (fin true (suc m) e) h = nan-fits binary32
-sqrt-fits (fin false (suc m) e) h = let n = inUnits (fin false (suc m) e) in subst (λ (v : Float). T (fits binary32 v)) (sym (rootOf-is n)) (units-fits (roundedOf n) (droppedOf n) (rounded-le n))
-
--- ---- above zero the result is finite, and the nearest
-pub sqrt-rootOf : (x : Float) → T (positive x) → sqrt x ≡ rootOf binary32 (inUnits x)
-unfolding sqrt
-sqrt-rootOf (fin false (suc m) e) p = refl
-
-module _ (m : ℕ) (e : ℤ) (h : T (fits binary32 (fin false (suc m) e))) (p : T (positive (fin false (suc m) e))) where
-  abbrev x : Float
-  x = fin false (suc m) e
-
-  abbrev n : ℕ
-  n = inUnits x
-
-  value : HasValue (sqrt x) false (roundedOf n * 2 ^ droppedOf n) (2 ^ 149)
-  value = subst (λ (v : Float). HasValue v false (roundedOf n * 2 ^ droppedOf n) (2 ^ 149)) (sym (sqrt-rootOf x p ∙ rootOf-is n)) (units-val binary32 false (roundedOf n) (droppedOf n) (rounded-lt n (units-lt false m e h)))
-
-  nearer : (y : Float) → Candidate y → Nearer (n * 2 ^ 149) (inUnits (sqrt x)) (inUnits y)
-  nearer nan c = absurd (c .1)
-  nearer (inf s) c = absurd (c .1)
-  nearer (fin true d g) c = absurd (c .1)
-  nearer (fin false d g) c =
-      let above = units-pos false m e h in
-      let w = digits false m e h in
-      let y = few-digits false d g (c .0) in
-      subst (λ (R : ℕ). Nearer (n * 2 ^ 149) R (inUnits (fin false d g))) (sym (value-units (sqrt x) false (roundedOf n * 2 ^ droppedOf n) value))
-      (subst (λ (Y : ℕ). Nearer (n * 2 ^ 149) (roundedOf n * 2 ^ droppedOf n) Y) (sym (y .3))
-      (nearerOf-nearer (n * 2 ^ 149) (droppedOf n) (keptOf n) (y .0) (y .1) (kept-lo n) (kept-hi n) (kept-lead n above) (y .2) (no-tie n (suc m) (w .shift) (w .odd) (w .few) (w .is) above)))
-
-  above-zero : Nearest x (sqrt x)
-  above-zero = record { candidate = (sqrt-fits x h, value-unsigned (sqrt x) (roundedOf n * 2 ^ droppedOf n) value); nearest = nearer }
-
--- The theorem: for a finite x above zero, `sqrt x` is the float nearest to the root of x.
-pub sqrt-nearest : (x : Float) → T (fits binary32 x) → T (positive x) → Nearest x (sqrt x)
-sqrt-nearest (fin false (suc m) e) h p = above-zero m e h p
-
--- the result is finite and not below zero
-pub sqrt-finite : (x : Float) → T (fits binary32 x) → T (positive x) → T (unsigned (sqrt x))
-sqrt-finite x h p = sqrt-nearest x h p .candidate .1
-
--- No other float is: whatever is nearest to the root of x is `sqrt x`. So the definition is the only one that rounds to the nearest, and a rule for ties would never be used.
-pub sqrt-only : (x r : Float) → T (fits binary32 x) → T (positive x) → Nearest x r → r ≡ sqrt x
-sqrt-only x r h p k =
-    let s = sqrt-nearest x h p in
-    same-units r (sqrt x) (k .candidate .0) (s .candidate .0) (k .candidate .1) (s .candidate .1)
-    (nearer-once (inUnits x * 2 ^ 149) (inUnits r) (inUnits (sqrt x)) (k .nearest (sqrt x) (s .candidate)) (s .nearest r (k .candidate)))

@@ -1,5 +1,5 @@
 -- IEEE 754's squareRoot on binary32, rounded to the nearest, over whole numbers: where a root lies is told by squares. Definitions only. Assumes nothing.
--- `Nearest.antt` proves that the result is the nearest float, and the only nearest. `Special.antt` has the zeros, the infinities, the NaN and the negative numbers.
+-- `Claims.antt` says that the result is the nearest float, and the only nearest, and has the zeros, the infinities, the NaN and the numbers below zero.
 use Prim.Native.Nat.{ℕ, zero, suc, _+_, _-_, _*_, _/_, _^_}
 use mathlib.Core.Bool.{true, false, cond}
 use lib.Dec.{leb, ltb}
@@ -14,17 +14,19 @@ unfoldable pub rootBelow : ℕ → ℕ → ℕ
 rootBelow zero n = zero
 rootBelow (suc d) n = oneMore n (2 * rootBelow d (n / 4))
 
--- The largest number whose square is at most n (`isqrt-le` and `isqrt-lt` prove that). An n of d binary digits is below 2 ^ d.
+-- The largest number whose square is at most n (`IsqrtRoot` in `Claims.antt`). An n of d binary digits is below 2 ^ d.
 unfoldable pub isqrt : ℕ → ℕ
 unfolding rootBelow size
 isqrt n = rootBelow (size n) n
 
--- Of q and q + 1, the one that times 2 ^ k is nearer to √a: q + 1 where √a is above the middle of the two, which is half of `middle`. For the roots here, √a is never at the middle.
+-- Of q and q + 1, the one that times 2 ^ k is nearer to √a: q + 1 where √a is above the middle of the two, which is half of `middle`. For
+-- the roots here, √a is never at the middle.
 abbrev pub nearerOf : ℕ → ℕ → ℕ → ℕ
 nearerOf a k q = let middle = (2 * q + 1) * 2 ^ k in cond (ltb (middle * middle) (4 * a)) (suc q) q
 
--- The value nearest to the root of n of the format's smallest values, 2 ^ -low each. In the same units that root is √a, since √a * 2 ^ -low squared is n * 2 ^ -low.
--- Of √a's whole part the format keeps the `prec` leading digits and drops k. They are the quotient by 2 ^ k, and the result is that many times 2 ^ k units or one more.
+-- The value nearest to the root of n of the format's smallest values, 2 ^ -low each. In the same units that root is √a, since √a * 2 ^ -low
+-- squared is n * 2 ^ -low. Of √a's whole part the format keeps the `prec` leading digits and drops k. They are the quotient by 2 ^ k, and the
+-- result is that many times 2 ^ k units or one more.
 unfoldable pub rootOf : Format → ℕ → Float
 unfolding isqrt size units
 rootOf f n =

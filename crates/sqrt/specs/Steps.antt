@@ -2,7 +2,7 @@
 use mathlib.Core.Path.{_≡_}
 use Prim.Native.Nat.{ℕ, _+_, _*_, _^_, _≤_, _<_}
 use lib.Ieee.{binary32, ofBits}
-use Rattle.sqrt.specs.Units.{inUnits}
+use Rattle.sqrt.specs.Nearest.{inUnits}
 
 -- m has 24 binary digits, and m * 2 ^ e is 2 ^ 24 times the value of the pattern b, in units of 2 ^ -149
 pub record Unpacks (b m e : ℕ) : Type 0 where

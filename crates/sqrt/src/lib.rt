@@ -75,9 +75,9 @@ fn estimate(b: u64) -> u64
     let Cubic(c3, c2, c1, c0) = cubic_at(b / INTERVAL % INTERVALS);
     let d = b % INTERVAL;
     let d2 = d * d / SQUARE_UNIT;
-    let bend = wrapping_sub_u32(c2, ((c3 as u64) * d / INTERVAL) as u32);
+    let quadratic = wrapping_sub_u32(c2, ((c3 as u64) * d / INTERVAL) as u32);
     let linear = wrapping_add_u64(c0, (c1 as u64) * d);
-    wrapping_sub_u64(linear, (bend as u64) * d2) / UNIT
+    wrapping_sub_u64(linear, (quadratic as u64) * d2) / UNIT
 }
 
 // A guess that is not above the nearest root: the one given, or what Heron's steps make of it.

@@ -1,4 +1,5 @@
--- `sqrt::estimate` meets its contract. A coefficient has 32 digits, d has 19 and d2 22, so no product is too large; and a quotient of 64 digits by 2 ^ 32 has 32. Assumes nothing.
+-- `sqrt::estimate` meets its contract. A coefficient has 32 digits, d has 19 and d2 22, so no product is too large; and a quotient of 64 digits
+-- by 2 ^ 32 has 32. Assumes nothing.
 use borrow.Author.Needs.{needs}
 use Prim.Native.Nat.{ℕ, _*_, _/_, _%_, _^_, _≤_, _<_}
 use native.Mathlib.Nat.{mul-le-mul, le-of-lt}
@@ -38,4 +39,5 @@ mul-wrapping-sub-u64 c = record { fits = product (c .before .wrapping-sub-u32 .r
 pub estimate-spec : {M : Type 1} → statement M
 estimate-spec =
     tie.close
-    (tie.spec (λ c κs. tt) mul-d2 (λ c. search needs) mul-wrapping-sub-u32 cast-wrapping-sub-u32-2 (λ c κs. tt) (λ c. search needs) mul-wrapping-add-u64 (λ c κs. tt) (λ c. search needs) mul-wrapping-sub-u64 (λ c κs. tt) (λ c. search needs))
+    (tie.spec (λ c κs. tt) mul-d2 (λ c. search needs) mul-wrapping-sub-u32 cast-wrapping-sub-u32-2 (λ c κs. tt) (λ c. search needs) mul-wrapping-add-u64
+    (λ c κs. tt) (λ c. search needs) mul-wrapping-sub-u64 (λ c κs. tt) (λ c. search needs))

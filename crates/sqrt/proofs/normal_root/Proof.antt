@@ -39,7 +39,8 @@ returns c =
     let b = c .before .before .before .args .b in
     let r = c .nearest-root .result in
     subst (λ (k : ℕ). (ofBits binary32 (k * 2 ^ 23 + r) ≡ sqrt (ofBits binary32 b)) × (k * 2 ^ 23 + r < 0x7f80_0000)) (halved b)
-    (root-bits-is b (2 ^ 23 + b % 2 ^ 23) (b / 2 ^ 23 + 23) (s .result) r (omega arith) (omega arith) (normal-unpacks b (omega arith) (omega arith)) (s .ensures) (c .nearest-root .ensures))
+    (root-bits-is b (2 ^ 23 + b % 2 ^ 23) (b / 2 ^ 23 + 23) (s .result) r (omega arith) (omega arith) (normal-unpacks b (omega arith) (omega arith))
+    (s .ensures) (c .nearest-root .ensures))
 
 add-result : tie.Need-add-result
 add-result c = search needs

@@ -1,9 +1,10 @@
--- `sqrt::raise_guess` meets its contract. While the test r * r + r < n passes, r is below 2 ^ 24, and (r + 1) * (r + 1) is r * r + r + (r + 1), so r + 1 is not too high either. Assumes nothing.
+-- `sqrt::raise_guess` meets its contract. While the test r * r + r < n passes, r is below 2 ^ 24, and (r + 1) * (r + 1) is r * r + r + (r + 1),
+-- so r + 1 is not too high either. Assumes nothing.
 use borrow.Author.Needs.{needs}
 use mathlib.Core.Path.{_≡_, ap, _∙_}
 use Prim.Native.Nat.{ℕ, suc, _+_, _-_, _*_, _^_, _<_}
 use native.Mathlib.Omega.{arith}
-use Rattle.sqrt.specs.Squares.{root-lt, square-next}
+use Rattle.sqrt.proofs.Squares.{root-lt, square-next}
 use Rattle.sqrt.proofs.Guesses.{square-fits}
 use Rattle.sqrt.proofs.raise_guess.Statement.{statement}
 use Rattle.sqrt.proofs.raise_guess.Tie as tie

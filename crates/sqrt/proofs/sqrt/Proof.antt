@@ -1,4 +1,4 @@
--- `sqrt::sqrt` meets its contract (`Specials.antt`, and what `normal_root` and `subnormal_root` ensure). Assumes nothing.
+-- `sqrt::sqrt` meets its contract (`SpecialBits.antt`, and what `normal_root` and `subnormal_root` ensure). Assumes nothing.
 use borrow.Author.Needs.{needs}
 use mathlib.Core.Path.{sym, ap, _∙_, subst}
 use native.Mathlib.Omega.{arith}
@@ -7,7 +7,7 @@ use lib.Ieee.{binary32, fits}
 use lib.Ieee.Bits.{ofBits-toBits}
 use Rattle.sqrt.specs.Sqrt.{sqrt}
 use Rattle.sqrt.proofs.Nans.{same-no-nan, finite-no-nan}
-use Rattle.sqrt.proofs.Specials.{at-nan, at-zero, at-minus-zero, at-infinity, at-negative}
+use Rattle.sqrt.proofs.SpecialBits.{at-nan, at-zero, at-minus-zero, at-infinity, at-negative}
 use Rattle.sqrt.proofs.sqrt.Statement.{statement}
 use Rattle.sqrt.proofs.sqrt.Tie as tie
 
@@ -40,7 +40,9 @@ float-from-bits-result-2 : tie.Need-float-from-bits-result-2
 float-from-bits-result-2 c = finite-no-nan binary32 (c .subnormal-root .result) (c .subnormal-root .ensures .1)
 
 returns-3 : tie.Need-returns-3
-returns-3 c = let s = c .before .before .before .before .before .before in c .subnormal-root .ensures .0 ∙ ap sqrt (ofBits-toBits binary32 (s .args .x) (held s))
+returns-3 c =
+    let s = c .before .before .before .before .before .before in
+    c .subnormal-root .ensures .0 ∙ ap sqrt (ofBits-toBits binary32 (s .args .x) (held s))
 
 returns-4 : tie.Need-returns-4
 returns-4 c = let s = c .before .before .before .before .before in at-zero (s .args .x) (held s) (omega arith)

@@ -22,7 +22,8 @@ returns : tie.Need-returns
 returns c =
     let s = c .before .scaled-significand in
     let x = c .before .before .unpack-subnormal in
-    root-bits-is (c .before .before .before .args .b) (x .result .significand) (x .result .exponent) (s .result) (c .nearest-root .result) (omega arith) (omega arith) (x .ensures) (s .ensures) (c .nearest-root .ensures)
+    root-bits-is (c .before .before .before .args .b) (x .result .significand) (x .result .exponent) (s .result) (c .nearest-root .result)
+    (omega arith) (omega arith) (x .ensures) (s .ensures) (c .nearest-root .ensures)
 
 add-result : tie.Need-add-result
 add-result c = search needs

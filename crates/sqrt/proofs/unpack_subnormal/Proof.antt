@@ -34,7 +34,9 @@ loop-again c =
     (omega arith, omega arith, omega arith, shifted (c .before .loop .significand) (c .before .loop .exponent) (left c) ∙ c .before .loop .inv .3)
 
 returns : tie.Need-returns Inv-loop μ-loop
-returns c = subnormal-unpacks (c .before .before .args .b) (c .before .loop .significand) (c .before .loop .exponent) (omega arith) (omega arith) (omega arith) (omega arith) (c .before .loop .inv .3)
+returns c =
+    subnormal-unpacks (c .before .before .args .b) (c .before .loop .significand) (c .before .loop .exponent)
+    (omega arith) (omega arith) (omega arith) (omega arith) (c .before .loop .inv .3)
 
 pub unpack-subnormal-spec : {M : Type 1} → statement M
 unpack-subnormal-spec = tie.close (tie.spec Inv-loop μ-loop loop-holds mul-significand sub-exponent loop-less loop-again returns)

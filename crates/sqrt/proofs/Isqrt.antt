@@ -9,13 +9,10 @@ use lib.Pow.{pow-mono, shr-lt}
 use lib.Ieee.{size}
 use lib.Ieee.Digits.{size-lt}
 use Rattle.sqrt.specs.Sqrt.{oneMore, rootBelow, isqrt}
-use Rattle.sqrt.specs.Squares.{root-lt, square-double}
+use Rattle.sqrt.specs.Claims.{Root, IsqrtRoot, RootUnique}
+use Rattle.sqrt.proofs.Squares.{root-lt, square-double}
 
--- r is the root of n, rounded down
-abbrev pub Root : ℕ → ℕ → Type 0
-Root n r = (r * r ≤ n) × (n < suc r * suc r)
-
-pub root-unique : (n r s : ℕ) → Root n r → Root n s → r ≡ s
+pub root-unique : RootUnique
 root-unique n r s h k =
     le-antisymm (le-of-suc-le-suc (root-lt r (suc s) (lt-of-le-of-lt (h .0) (k .1)))) (le-of-suc-le-suc (root-lt s (suc r) (lt-of-le-of-lt (k .0) (h .1))))
 
@@ -46,7 +43,7 @@ rootBelow-root (suc d) n h = step n (rootBelow d (n / 4)) (rootBelow-root d (n /
     more : (d : ℕ) → suc d + suc d ≡ d + d + 2
     more d = omega arith
 
-pub isqrt-root : (n : ℕ) → Root n (isqrt n)
+pub isqrt-root : IsqrtRoot
 unfolding isqrt
 isqrt-root n = rootBelow-root (size n) n (lt-of-lt-of-le (size-lt n) (pow-mono (le-add-right (size n) (size n))))
 

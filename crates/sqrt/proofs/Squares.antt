@@ -1,7 +1,8 @@
 -- Squares of whole numbers, which `omega` takes as unknowns. Assumes nothing.
 use mathlib.Core.Path.{_≡_, ap, _∙_}
 use Prim.Native.Nat.{ℕ, suc, _+_, _*_, _≤_, _<_, zero-le}
-use native.Mathlib.Nat.{le-of-lt, lt-of-not-le, lt-of-le-of-lt, lt-irrefl, mul-add, add-mul, mul-one, one-mul, mul-assoc, mul-left-comm, mul-suc, suc-mul, mul-le-mul, mul-le-mul-left, mul-lt-mul-of-pos-right}
+use native.Mathlib.Nat.{le-of-lt, lt-of-not-le, lt-of-le-of-lt, lt-irrefl, mul-add, add-mul, mul-one, one-mul, mul-assoc, mul-left-comm, mul-suc, suc-mul}
+use native.Mathlib.Nat.{mul-le-mul, mul-le-mul-left, mul-lt-mul-of-pos-right}
 use native.Mathlib.Omega.{arith}
 
 -- of two squares the larger has the larger root

@@ -1,7 +1,10 @@
 -- What `nearerOf` and `rootOf` choose, over whole numbers. Assumes nothing.
 use mathlib.Core.Path.{_≡_, refl, sym, ap, _∙_}
 use Prim.Native.Nat.{ℕ, zero, suc, _+_, _-_, _*_, _/_, _%_, _^_, _≤_, _<_}
-use native.Mathlib.Nat.{le-refl, le-trans, le-of-eq, le-of-lt, le-of-suc-le-suc, le-antisymm, lt-of-not-le, lt-of-lt-of-le, lt-of-le-of-lt, lt-irrefl, lt-suc-self, add-le-add, add-lt-add-of-le-of-lt, add-comm, add-mul, mul-one, mul-comm, mul-assoc, mul-left-comm, mul-le-mul, mul-le-mul-left, mul-le-mul-right, mul-lt-mul-of-pos-left, mul-lt-mul-of-pos-right, lt-of-mul-lt-mul-right, eq-of-mul-eq-mul-right, zero-lt-suc, pow-suc, pow-succ', div-lt-iff-lt-mul, le-div-iff-mul-le, div-mul-le-self}
+use native.Mathlib.Nat.{le-refl, le-trans, le-of-eq, le-of-lt, le-of-suc-le-suc, le-antisymm, lt-of-not-le, lt-of-lt-of-le, lt-of-le-of-lt, lt-irrefl}
+use native.Mathlib.Nat.{lt-suc-self, add-le-add, add-lt-add-of-le-of-lt, add-comm, add-mul, mul-one, mul-comm, mul-assoc, mul-left-comm, mul-le-mul}
+use native.Mathlib.Nat.{mul-le-mul-left, mul-le-mul-right, mul-lt-mul-of-pos-left, mul-lt-mul-of-pos-right, lt-of-mul-lt-mul-right, eq-of-mul-eq-mul-right}
+use native.Mathlib.Nat.{zero-lt-suc, pow-suc, pow-succ', div-lt-iff-lt-mul, le-div-iff-mul-le, div-mul-le-self}
 use native.Mathlib.Omega.{arith}
 use mathlib.Core.Bool.{Bool, true, false, not, cond}
 use lib.Arith.{lt-of-le-ne}
@@ -11,27 +14,23 @@ use lib.Ieee.{binary32, size, units}
 use lib.Ieee.Digits.{back, size-lt, size-le, size-reaches}
 use lib.Ieee.Fits.{kept-lt}
 use Rattle.sqrt.specs.Sqrt.{isqrt, nearerOf, rootOf}
-use Rattle.sqrt.specs.Squares.{root-lt, square-lt, square-mul, square-double, square-odd}
-use Rattle.sqrt.specs.Isqrt.{isqrt-le, isqrt-lt}
-
--- R is nearer to √a than Y is, unless they are equal: √a lies on R's side of their middle, (R + Y) / 2. There are no real numbers here, so both sides are doubled and squared.
-pub record Nearer (a R Y : ℕ) : Type 0 where
-  pub above : R < Y → 4 * a < (R + Y) * (R + Y)
-  pub below : Y < R → (R + Y) * (R + Y) < 4 * a
+use Rattle.sqrt.specs.Nearest.{Nearer}
+use Rattle.sqrt.proofs.Squares.{root-lt, square-lt, square-mul, square-double, square-odd}
+use Rattle.sqrt.proofs.Isqrt.{isqrt-le, isqrt-lt}
 
 -- of two different numbers only one is the nearer
 pub nearer-once : (a R Y : ℕ) → Nearer a R Y → Nearer a Y R → R ≡ Y
 nearer-once a R Y h k =
-    le-antisymm (le-of-suc-le-suc (lt-of-not-le (λ (l : Y < R). clash Y R k h l))) (le-of-suc-le-suc (lt-of-not-le (λ (l : R < Y). clash R Y h k l)))
+    le-antisymm (le-of-suc-le-suc (lt-of-not-le (λ (l : Y < R). contra Y R k h l))) (le-of-suc-le-suc (lt-of-not-le (λ (l : R < Y). contra R Y h k l)))
   where
-    clash : (P Q : ℕ) → Nearer a P Q → Nearer a Q P → P < Q → ⊥
-    clash P Q g h l = lt-irrefl (4 * a) (lt-of-lt-of-le (g .above l) (le-trans (le-of-eq (ap (λ (x : ℕ). x * x) (add-comm P Q))) (le-of-lt (h .below l))))
+    contra : (P Q : ℕ) → Nearer a P Q → Nearer a Q P → P < Q → ⊥
+    contra P Q g h l = lt-irrefl (4 * a) (lt-of-lt-of-le (g .above l) (le-trans (le-of-eq (ap (λ (x : ℕ). x * x) (add-comm P Q))) (le-of-lt (h .below l))))
 
 not-even : (m n b : ℕ) → m % 2 ≡ 1 → m * 2 ^ 0 ≡ n * 2 ^ suc b → ⊥
-not-even m n b o h = clash m (n * 2 ^ b) o (sym (mul-one m) ∙ h ∙ ap (λ (x : ℕ). n * x) (pow-succ' 2 b) ∙ mul-left-comm n 2 (2 ^ b))
+not-even m n b o h = contra m (n * 2 ^ b) o (sym (mul-one m) ∙ h ∙ ap (λ (x : ℕ). n * x) (pow-succ' 2 b) ∙ mul-left-comm n 2 (2 ^ b))
   where
-    clash : (m t : ℕ) → m % 2 ≡ 1 → m ≡ 2 * t → ⊥
-    clash m t o h = omega arith
+    contra : (m t : ℕ) → m % 2 ≡ 1 → m ≡ 2 * t → ⊥
+    contra m t o h = omega arith
 
 -- a number is an odd number times a power of 2 in one way
 odd-part : (m n a b : ℕ) → m % 2 ≡ 1 → n % 2 ≡ 1 → m * 2 ^ a ≡ n * 2 ^ b → m ≡ n
@@ -55,12 +54,17 @@ square-sum x = ap (λ (y : ℕ). y * y) (twice x) ∙ square-double x
     twice : (x : ℕ) → x + x ≡ 2 * x
     twice x = omega arith
 
--- ---- `nearerOf` is nearer to √a than any number of 24 digits times a power of 2, where √a lies between q and q + 1 times 2 ^ k, q has 24 digits and √a is not the middle
-module _ (a k q m j : ℕ) (lo : q * 2 ^ k * (q * 2 ^ k) ≤ a) (hi : a < suc q * 2 ^ k * (suc q * 2 ^ k)) (lead : 2 ^ 23 ≤ q) (digits : m < 2 ^ 24) (no-tie : (2 * q + 1) * 2 ^ k * ((2 * q + 1) * 2 ^ k) ≡ 4 * a → ⊥) where
+-- ---- `nearerOf` is nearer to √a than any number of 24 digits times a power of 2, where √a lies between q and q + 1 times 2 ^ k, q has 24 digits
+-- and √a is not the middle
+module _ (a k q m j : ℕ) (lo : q * 2 ^ k * (q * 2 ^ k) ≤ a) (hi : a < suc q * 2 ^ k * (suc q * 2 ^ k)) (lead : 2 ^ 23 ≤ q) (digits : m < 2 ^ 24)
+    (no-tie : (2 * q + 1) * 2 ^ k * ((2 * q + 1) * 2 ^ k) ≡ 4 * a → ⊥) where
   -- from 2 ^ (23 + k) on, a number of 24 digits is a multiple of 2 ^ k
   multiple : 2 ^ 23 * 2 ^ k ≤ m * 2 ^ j → (t : ℕ) × (m * 2 ^ j ≡ t * 2 ^ k)
   multiple h =
-      let l : k ≤ j = le-of-suc-le-suc (lt-of-not-le (λ (g : suc j ≤ k). lt-irrefl (2 ^ 23 * 2 ^ k) (lt-of-le-of-lt h (lt-of-lt-of-le (shl-lt 24 j digits) (le-trans (pow-mono {i = 24 + j} {j = 23 + k} (more j k g)) (le-of-eq (pow-add 2 23 k))))))) in
+      let l : k ≤ j =
+      le-of-suc-le-suc (lt-of-not-le (λ (g : suc j ≤ k).
+      lt-irrefl (2 ^ 23 * 2 ^ k)
+      (lt-of-le-of-lt h (lt-of-lt-of-le (shl-lt 24 j digits) (le-trans (pow-mono {i = 24 + j} {j = 23 + k} (more j k g)) (le-of-eq (pow-add 2 23 k))))))) in
       (m * 2 ^ (j - k), ap (λ (x : ℕ). m * x) (ap (λ (x : ℕ). 2 ^ x) (sym (back j k l)) ∙ pow-add 2 (j - k) k) ∙ sym (mul-assoc m (2 ^ (j - k)) (2 ^ k)))
     where
       more : (j k : ℕ) → suc j ≤ k → 24 + j ≤ 23 + k
@@ -93,7 +97,9 @@ module _ (a k q m j : ℕ) (lo : q * 2 ^ k * (q * 2 ^ k) ≤ a) (hi : a < suc q 
             let s : suc q * 2 ^ k + suc q * 2 ^ k ≤ suc q * 2 ^ k + m * 2 ^ j = add-le-add (le-refl (suc q * 2 ^ k)) (le-of-lt h) in
             lt-of-lt-of-le (mul-lt-mul-of-pos-left hi (lit< tt)) (le-trans (le-of-eq (sym (square-sum (suc q * 2 ^ k)))) (mul-le-mul s s));
         below = λ h.
-            let s : suc q * 2 ^ k + m * 2 ^ j ≤ mid = le-trans (add-le-add (le-refl (suc q * 2 ^ k)) (down-to h)) (le-of-eq (add-comm (suc q * 2 ^ k) (q * 2 ^ k) ∙ middle q (2 ^ k))) in
+            let s : suc q * 2 ^ k + m * 2 ^ j ≤ mid =
+            le-trans (add-le-add (le-refl (suc q * 2 ^ k)) (down-to h))
+            (le-of-eq (add-comm (suc q * 2 ^ k) (q * 2 ^ k) ∙ middle q (2 ^ k))) in
             lt-of-le-of-lt (mul-le-mul s s) (g tt);
       }
       go false g l = record {
@@ -127,14 +133,23 @@ module _ (n : ℕ) where
   kept-lo = let l = div-mul-le-self (isqrt scaledOf) (2 ^ droppedOf) in le-trans (mul-le-mul l l) (isqrt-le scaledOf)
 
   pub kept-hi : scaledOf < suc keptOf * 2 ^ droppedOf * (suc keptOf * 2 ^ droppedOf)
-  kept-hi = let l : isqrt scaledOf < suc keptOf * 2 ^ droppedOf = div-lt-iff-lt-mul (pow-pos droppedOf) .0 (lt-suc-self keptOf) in lt-of-lt-of-le (isqrt-lt scaledOf) (mul-le-mul l l)
+  kept-hi =
+      let l : isqrt scaledOf < suc keptOf * 2 ^ droppedOf = div-lt-iff-lt-mul (pow-pos droppedOf) .0 (lt-suc-self keptOf) in
+      lt-of-lt-of-le (isqrt-lt scaledOf) (mul-le-mul l l)
 
   -- 24 digits are kept
   pub kept-lead : 0 < n → 2 ^ 23 ≤ keptOf
   kept-lead p =
-      let big : 2 ^ 74 < suc (isqrt scaledOf) = root-lt (2 ^ 74) (suc (isqrt scaledOf)) (lt-of-le-of-lt (le-trans (lit≤ tt) (mul-le-mul-right (2 ^ 149) p)) (isqrt-lt scaledOf)) in
-      let many : 74 < size (isqrt scaledOf) = lt-of-not-le (λ (g : size (isqrt scaledOf) ≤ 74). lt-irrefl (isqrt scaledOf) (lt-of-lt-of-le (size-lt (isqrt scaledOf)) (le-trans (pow-mono g) (le-of-suc-le-suc big)))) in
-      le-div-iff-mul-le (pow-pos droppedOf) .1 (le-trans (le-of-eq (sym (pow-add 2 23 droppedOf))) (size-reaches (isqrt scaledOf) (23 + droppedOf) (places (size (isqrt scaledOf)) many)))
+      let big : 2 ^ 74 < suc (isqrt scaledOf) =
+      root-lt (2 ^ 74) (suc (isqrt scaledOf))
+      (lt-of-le-of-lt (le-trans (lit≤ tt) (mul-le-mul-right (2 ^ 149) p)) (isqrt-lt scaledOf)) in
+      let many : 74 < size (isqrt scaledOf) =
+      lt-of-not-le (λ (g : size (isqrt scaledOf) ≤ 74).
+      lt-irrefl (isqrt scaledOf)
+      (lt-of-lt-of-le (size-lt (isqrt scaledOf)) (le-trans (pow-mono g) (le-of-suc-le-suc big)))) in
+      le-div-iff-mul-le (pow-pos droppedOf) .1
+      (le-trans (le-of-eq (sym (pow-add 2 23 droppedOf)))
+      (size-reaches (isqrt scaledOf) (23 + droppedOf) (places (size (isqrt scaledOf)) many)))
     where
       places : (z : ℕ) → 74 < z → 23 + (z - 24) < z
       places z h = omega arith
@@ -149,7 +164,9 @@ module _ (n : ℕ) where
   -- the root of a finite value does not overflow
   pub rounded-lt : n < 2 ^ 277 → roundedOf * 2 ^ droppedOf < 2 ^ 277
   rounded-lt h =
-      let small : isqrt scaledOf < 2 ^ 213 = root-lt (isqrt scaledOf) (2 ^ 213) (lt-of-le-of-lt (isqrt-le scaledOf) (lt-of-lt-of-le (mul-lt-mul-of-pos-right h (pow-pos 149)) (lit≤ tt))) in
+      let small : isqrt scaledOf < 2 ^ 213 =
+      root-lt (isqrt scaledOf) (2 ^ 213)
+      (lt-of-le-of-lt (isqrt-le scaledOf) (lt-of-lt-of-le (mul-lt-mul-of-pos-right h (pow-pos 149)) (lit≤ tt))) in
       let few : droppedOf ≤ 189 = places (size (isqrt scaledOf)) (size-le (isqrt scaledOf) 213 small) in
       lt-of-le-of-lt (mul-le-mul rounded-le (pow-mono few)) (lit< tt)
     where
@@ -157,15 +174,22 @@ module _ (n : ℕ) where
       places z h = omega arith
 
   -- √a is not the middle, for a value of 24 digits: the middle's square has an odd part of more digits
-  pub no-tie : (m j : ℕ) → m % 2 ≡ 1 → m < 2 ^ 24 → n ≡ m * 2 ^ j → 0 < n → (2 * keptOf + 1) * 2 ^ droppedOf * ((2 * keptOf + 1) * 2 ^ droppedOf) ≡ 4 * scaledOf → ⊥
+  pub no-tie : (m j : ℕ) → m % 2 ≡ 1 → m < 2 ^ 24 → n ≡ m * 2 ^ j → 0 < n
+      → (2 * keptOf + 1) * 2 ^ droppedOf * ((2 * keptOf + 1) * 2 ^ droppedOf) ≡ 4 * scaledOf → ⊥
   no-tie m j o few is p t =
       let q = keptOf in
       let k = droppedOf in
-      let left : (2 * q + 1) * 2 ^ k * ((2 * q + 1) * 2 ^ k) ≡ (2 * q + 1) * (2 * q + 1) * 2 ^ (k + k) = square-mul (2 * q + 1) (2 ^ k) ∙ ap (λ (x : ℕ). (2 * q + 1) * (2 * q + 1) * x) (sym (pow-add 2 k k)) in
+      let left : (2 * q + 1) * 2 ^ k * ((2 * q + 1) * 2 ^ k) ≡ (2 * q + 1) * (2 * q + 1) * 2 ^ (k + k) =
+      square-mul (2 * q + 1) (2 ^ k) ∙ ap (λ (x : ℕ). (2 * q + 1) * (2 * q + 1) * x) (sym (pow-add 2 k k)) in
       let right : 4 * scaledOf ≡ m * 2 ^ (j + 151) =
-      ap (λ (x : ℕ). 4 * (x * 2 ^ 149)) is ∙ mul-comm 4 (m * 2 ^ j * 2 ^ 149) ∙ mul-assoc (m * 2 ^ j) (2 ^ 149) 4 ∙ mul-assoc m (2 ^ j) (2 ^ 151) ∙ ap (λ (x : ℕ). m * x) (sym (pow-add 2 j 151)) in
+      ap (λ (x : ℕ). 4 * (x * 2 ^ 149)) is
+      ∙ mul-comm 4 (m * 2 ^ j * 2 ^ 149)
+      ∙ mul-assoc (m * 2 ^ j) (2 ^ 149) 4
+      ∙ mul-assoc m (2 ^ j) (2 ^ 151)
+      ∙ ap (λ (x : ℕ). m * x) (sym (pow-add 2 j 151)) in
       let e = square-odd q in
-      let same : (2 * q + 1) * (2 * q + 1) ≡ m = odd-part ((2 * q + 1) * (2 * q + 1)) m (k + k) (j + 151) (odd-is ((2 * q + 1) * (2 * q + 1)) (q * q + q) e) o (sym left ∙ t ∙ right) in
+      let same : (2 * q + 1) * (2 * q + 1) ≡ m =
+      odd-part ((2 * q + 1) * (2 * q + 1)) m (k + k) (j + 151) (odd-is ((2 * q + 1) * (2 * q + 1)) (q * q + q) e) o (sym left ∙ t ∙ right) in
       let lead : 2 ^ 23 ≤ q = kept-lead p in
       let large : 2 ^ 23 * 2 ^ 23 ≤ q * q = mul-le-mul lead lead in
       omega arith

@@ -1,7 +1,8 @@
 -- The finite values of binary32 as whole numbers: each is so many times the smallest one, 2 ^ -149. Assumes nothing.
 use mathlib.Core.Path.{_≡_, refl, sym, ap, _∙_, subst}
 use Prim.Native.Nat.{ℕ, zero, suc, _+_, _-_, _*_, _/_, _%_, _^_, _≤_, _<_}
-use native.Mathlib.Nat.{le-trans, le-of-eq, le-of-suc-le-suc, lt-of-not-le, lt-of-lt-of-le, lt-irrefl, div-one, mul-one, mul-assoc, mul-right-comm, zero-mul, zero-div, mul-pos, zero-lt-suc, mul-lt-mul-of-pos-right, div-lt-iff-lt-mul, mul-div-cancel}
+use native.Mathlib.Nat.{le-trans, le-of-eq, le-of-suc-le-suc, lt-of-not-le, lt-of-lt-of-le, lt-irrefl, div-one, mul-one, mul-assoc, mul-right-comm, zero-mul}
+use native.Mathlib.Nat.{zero-div, mul-pos, zero-lt-suc, mul-lt-mul-of-pos-right, div-lt-iff-lt-mul, mul-div-cancel}
 use mathlib.Core.Bool.{Bool, true, false, _&&_, cond, true≢false}
 use lib.Dec.{T, ltb, leb, eqb, ltb→lt, leb→le, eqb→eq, lit<}
 use lib.IntN.{ℤ, pos, negsuc}
@@ -11,19 +12,7 @@ use lib.Ieee.Bits.{ofBits-toBits}
 use lib.Ieee.Digits.{back}
 use lib.Ieee.Exact.{HasValue}
 use lib.Ieee.Fits.{down-pos, and-l, and-r}
-
--- how many of binary32's smallest values a finite value is, its sign left out
-abbrev pub inUnits : Float → ℕ
-inUnits nan = 0
-inUnits (inf s) = 0
-inUnits (fin s m e) = m * up e * 2 ^ 149 / down e
-
--- a finite value with the sign clear
-abbrev pub unsigned : Float → Bool
-unsigned nan = false
-unsigned (inf s) = false
-unsigned (fin true m e) = false
-unsigned (fin false m e) = true
+use Rattle.sqrt.specs.Nearest.{inUnits, unsigned}
 
 pub value-units : (v : Float) (s : Bool) (a : ℕ) → HasValue v s a (2 ^ 149) → inUnits v ≡ a
 value-units nan s a h = absurd h
@@ -40,7 +29,9 @@ value-unsigned (fin false m e) a h = tt
 place : (e : ℤ) → down e ≤ 2 ^ 149 → (j : ℕ) × ((m : ℕ) → m * up e * 2 ^ 149 / down e ≡ m * 2 ^ j)
 place (pos a) h = (a + 149, λ m. div-one (m * 2 ^ a * 2 ^ 149) ∙ mul-assoc m (2 ^ a) (2 ^ 149) ∙ ap (λ (x : ℕ). m * x) (sym (pow-add 2 a 149)))
 place (negsuc a) h =
-    let l : suc a ≤ 149 = le-of-suc-le-suc (lt-of-not-le (λ (g : 150 ≤ suc a). lt-irrefl (2 ^ 149) (lt-of-lt-of-le (pow-lt {i = 149} {j = 150} (lit< tt)) (le-trans (pow-mono g) h)))) in (
+    let l : suc a ≤ 149 =
+    le-of-suc-le-suc (lt-of-not-le (λ (g : 150 ≤ suc a).
+    lt-irrefl (2 ^ 149) (lt-of-lt-of-le (pow-lt {i = 149} {j = 150} (lit< tt)) (le-trans (pow-mono g) h)))) in (
       149 - suc a,
       λ m.
           ap (λ (x : ℕ). x * 2 ^ 149 / 2 ^ suc a) (mul-one m)

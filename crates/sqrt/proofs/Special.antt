@@ -4,29 +4,22 @@ use mathlib.Core.Bool.{true, false}
 use Prim.Native.Nat.{ℕ, zero, suc, _+_, _*_}
 use native.Mathlib.Omega.{arith}
 use lib.Dec.{T, ltb, ltb→lt}
-use lib.IntN.{pos}
-use lib.Ieee.{Float, nan, inf, fin, up, down, lt}
+use lib.Ieee.{nan, inf, fin, up, down, lt}
 use Rattle.sqrt.specs.Sqrt.{sqrt}
+use Rattle.sqrt.specs.Claims.{SqrtMinusZero, SqrtPlusZero, SqrtNegative, SqrtInfinity, SqrtNan}
 
-abbrev pub plusZero : Float
-plusZero = fin false 0 (pos 0)
-
-abbrev pub minusZero : Float
-minusZero = fin true 0 (pos 0)
-
-pub sqrt-minus-zero : sqrt minusZero ≡ minusZero
+pub sqrt-minus-zero : SqrtMinusZero
 unfolding sqrt
 sqrt-minus-zero = refl
 
-pub sqrt-plus-zero : sqrt plusZero ≡ plusZero
+pub sqrt-plus-zero : SqrtPlusZero
 unfolding sqrt
 sqrt-plus-zero = refl
 
 none-below-zero : (a b : ℕ) → b ≡ 0 → T (ltb a b) → ⊥
 none-below-zero a b z h = omega (arith, ltb→lt a b h)
 
--- every number below zero, also -infinity
-pub sqrt-negative : (x : Float) → T (lt x plusZero) → sqrt x ≡ nan
+pub sqrt-negative : SqrtNegative
 unfolding sqrt lt
 sqrt-negative nan h = refl
 sqrt-negative (inf true) h = refl
@@ -35,10 +28,10 @@ sqrt-negative (fin true zero e) h = absurd (none-below-zero 0 (0 * up e * 1 + 0 
 sqrt-negative (fin true (suc m) e) h = refl
 sqrt-negative (fin false m e) h = absurd (none-below-zero (m * up e * 1) (0 * down e) (omega arith) h)
 
-pub sqrt-infinity : sqrt (inf false) ≡ inf false
+pub sqrt-infinity : SqrtInfinity
 unfolding sqrt
 sqrt-infinity = refl
 
-pub sqrt-nan : sqrt nan ≡ nan
+pub sqrt-nan : SqrtNan
 unfolding sqrt
 sqrt-nan = refl
