@@ -3,7 +3,7 @@ use mathlib.Core.Path.{_≡_, refl, ap, _∙_}
 use mathlib.Core.Bool.{true, false}
 use lib.Ieee.{nan}
 use Rattle.math_functions.specs.Float.{lt, zero, threshold}
-use Rattle.math_functions.specs.Facts.{negative-below-threshold, nan-not-below-threshold}
+use Rattle.math_functions.proofs.Facts.{negative-below-threshold, nan-not-below-threshold}
 use Rattle.records.specs.declared.body.BodyRecord.{BodyRecord}
 use Rattle.records.specs.declared.joint.JointBase.{JointBase}
 use Rattle.constraint.specs.Prepare.{inertiaDet, prepareBase}

@@ -6,7 +6,7 @@ use Prim.Native.Nat.{ℕ, _+_, _*_, _≤_}
 use native.Mathlib.Omega.{arith}
 use lib.Ieee.{Float}
 use Rattle.math_functions.specs.Float.{gt, zero}
-use Rattle.math_functions.specs.Facts.{nan-not-above, zero-not-above, negative-not-above}
+use Rattle.math_functions.proofs.Facts.{nan-not-above, zero-not-above, negative-not-above}
 use Rattle.records.specs.declared.joint.JointUnion.{JointUnion}
 use Rattle.records.specs.declared.joint.JointUnion.the-variants.{Revolute, Spherical, Weld, Other}
 use Rattle.records.specs.Joint.{caseOf}

@@ -8,4 +8,3 @@ pub mod Matrix
 pub mod Transform
 pub mod Constants
 pub mod Steps
-pub mod Facts

@@ -5,4 +5,5 @@ use Rattle.math_functions.proofs.matrix.add_mm.Tie as tie
 
 pub add-mm-spec : {M : Type 1} → statement M
 unfolding addMm add
-add-mm-spec = tie.close (tie.spec (λ c κs. tt) (λ c κs. tt) (λ c κs. tt) (λ c. rw (c .before .before .add .ensures, c .before .add2 .ensures, c .add3 .ensures)))
+add-mm-spec = tie.close (tie.spec (λ c κs. tt) (λ c κs. tt) (λ c κs. tt)
+    (λ c. rw (c .before .before .add .ensures, c .before .add2 .ensures, c .add3 .ensures)))

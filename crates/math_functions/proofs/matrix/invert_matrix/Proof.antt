@@ -4,11 +4,23 @@ use Rattle.math_functions.proofs.matrix.invert_matrix.Tie as tie
 
 returns : tie.Need-returns
 unfolding invertMatrix
-returns c = rw (← (c .before .before .before .before .before .before .before .before .before .det .ensures), ← (c .before .before .before .before .before .before .before .before .abs-float .ensures), ← (c .before .before .before .before .before .before .cross .ensures), ← (c .before .before .before .before .before .mul-sv .ensures), ← (c .before .before .before .before .cross2 .ensures), ← (c .before .before .before .mul-sv2 .ensures), ← (c .before .before .cross3 .ensures), ← (c .before .mul-sv3 .ensures), ← (c .transpose .ensures), c .before .before .before .before .before .before .before .if1 .taken)
+returns c = rw (
+  ← (c .before .before .before .before .before .before .before .before .before .det .ensures),
+  ← (c .before .before .before .before .before .before .before .before .abs-float .ensures),
+  ← (c .before .before .before .before .before .before .cross .ensures),
+  ← (c .before .before .before .before .before .mul-sv .ensures),
+  ← (c .before .before .before .before .cross2 .ensures),
+  ← (c .before .before .before .mul-sv2 .ensures),
+  ← (c .before .before .cross3 .ensures),
+  ← (c .before .mul-sv3 .ensures),
+  ← (c .transpose .ensures),
+  c .before .before .before .before .before .before .before .if1 .taken,
+)
 
 returns-2 : tie.Need-returns-2
 unfolding invertMatrix
 returns-2 c = rw (← (c .before .before .det .ensures), ← (c .before .abs-float .ensures), c .if1 .left)
 
 pub invert-matrix-spec : {M : Type 1} → statement M
-invert-matrix-spec = tie.close (tie.spec (λ c κs. tt) (λ c κs. tt) (λ c κs. tt) (λ c κs. tt) (λ c κs. tt) (λ c κs. tt) (λ c κs. tt) (λ c κs. tt) (λ c κs. tt) returns returns-2)
+invert-matrix-spec = tie.close (tie.spec (λ c κs. tt) (λ c κs. tt) (λ c κs. tt) (λ c κs. tt) (λ c κs. tt) (λ c κs. tt) (λ c κs. tt) (λ c κs. tt) (λ c κs. tt)
+    returns returns-2)

@@ -4,7 +4,10 @@ use Rattle.math_functions.proofs.matrix.solve2.Tie as tie
 
 returns : tie.Need-returns
 unfolding solve2
-returns c = rw (← (c .before .before .before .before .before .before .before .before .before .det2 .ensures), c .before .before .before .before .before .before .before .before .if1 .taken)
+returns c = rw (
+  ← (c .before .before .before .before .before .before .before .before .before .det2 .ensures),
+  c .before .before .before .before .before .before .before .before .if1 .taken,
+)
 
 returns-2 : tie.Need-returns-2
 unfolding solve2

@@ -4,7 +4,17 @@ use Rattle.math_functions.proofs.matrix.solve3.Tie as tie
 
 returns : tie.Need-returns
 unfolding solve3
-returns c = rw (← (c .before .before .before .before .before .before .before .before .det .ensures), ← (c .before .before .before .before .before .before .before .abs-float .ensures), ← (c .before .before .before .before .before .cross .ensures), ← (c .before .before .before .before .cross2 .ensures), ← (c .before .before .before .cross3 .ensures), ← (c .before .before .dot .ensures), ← (c .before .dot2 .ensures), ← (c .dot3 .ensures), c .before .before .before .before .before .before .if1 .taken)
+returns c = rw (
+  ← (c .before .before .before .before .before .before .before .before .det .ensures),
+  ← (c .before .before .before .before .before .before .before .abs-float .ensures),
+  ← (c .before .before .before .before .before .cross .ensures),
+  ← (c .before .before .before .before .cross2 .ensures),
+  ← (c .before .before .before .cross3 .ensures),
+  ← (c .before .before .dot .ensures),
+  ← (c .before .dot2 .ensures),
+  ← (c .dot3 .ensures),
+  c .before .before .before .before .before .before .if1 .taken,
+)
 
 returns-2 : tie.Need-returns-2
 unfolding solve3

@@ -1,4 +1,5 @@
--- `quat::atan2_non_negative` equals the definition of `atan2`: neither argument is below zero, so each is its own absolute value, and no sign is turned. Assumes nothing.
+-- `quat::atan2_non_negative` equals the definition of `atan2`: neither argument is below zero, so each is its own absolute value, and no sign is turned.
+-- Assumes nothing.
 use mathlib.Core.Path.{_≡_}
 use mathlib.Core.Logic.{⊎-elim}
 use mathlib.Core.Bool.{false, _&&_}

@@ -1,4 +1,5 @@
--- `scalar::atan2` equals its definition. The code changes r in two branches, the first of which goes on; its join is one equation, r ≡ cond test new old. Assumes nothing.
+-- `scalar::atan2` equals its definition. The code changes r in two branches, the first of which goes on; its join is one equation, r ≡ cond test new old.
+-- Assumes nothing.
 use mathlib.Core.Path.{_≡_}
 use mathlib.Core.Logic.{⊎-elim}
 use mathlib.Core.Bool.{false, cond, _&&_}
@@ -18,7 +19,8 @@ unfolding atan2
 returns c = rw (c .before .if1 .taken, c .if2 .taken)
 
 -- before the last branch, on the sign of y
-module _ (c : lts.Joined3 (abs-float-reads.Asked, abs-float-reads.Learnt, first-quadrant-angle-reads.Asked, first-quadrant-angle-reads.Learnt) reads.Pre reads.Post) where
+module _ (c : lts.Joined3
+    (abs-float-reads.Asked, abs-float-reads.Learnt, first-quadrant-angle-reads.Asked, first-quadrant-angle-reads.Learnt) reads.Pre reads.Post) where
   abbrev y : Float
   y = c .before .before .before .before .before .args .y
 
