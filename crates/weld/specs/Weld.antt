@@ -1,10 +1,8 @@
--- joint/weld.rs: the weld joint's rows and stages. Definitions only. Assumes nothing.
+-- joint/weld.rs: prepare, warm start and solve of a weld joint. Definitions only. Assumes nothing.
 use mathlib.Core.Bool.{Bool, not, cond, _||_}
 use mathlib.Core.Option.{Option·elim}
 use lib.Ieee.{Float}
-use lib.IntN.{ℤ}
 use Rattle.math_functions.specs.declared.types.Vec3.{Vec3}
-use Rattle.math_functions.specs.declared.types.Transform.{Transform}
 use Rattle.math_functions.specs.declared.types.Matrix3.{Matrix3}
 use Rattle.math_functions.specs.Float.{gt, eq, zero}
 use Rattle.math_functions.specs.Types.{vec3Zero, quatIdentity}
@@ -21,7 +19,8 @@ use Rattle.records.specs.declared.joint.WeldJoint.{WeldJoint}
 use Rattle.records.specs.declared.joint.JointBase.{JointBase}
 use Rattle.records.specs.declared.joint.JointSim.{JointSim}
 use Rattle.records.specs.declared.joint.JointUnion.the-variants.{Weld}
-use Rattle.records.specs.Joint.{asWeld, jointSim}
+use Rattle.records.specs.Weld.{built, writtenOf, settingsOf, withWritten}
+use Rattle.records.specs.Joint.{asWeld, jointSim, afterStage}
 use Rattle.constraint.specs.declared.velocity.Velocities.{Velocities}
 use Rattle.constraint.specs.declared.velocity.InvMasses.{InvMasses}
 use Rattle.constraint.specs.declared.soft.SoftBias3.{SoftBias3}
@@ -37,34 +36,14 @@ use Rattle.constraint.specs.Angular.{row3, angularRow}
 use Rattle.constraint.specs.Point.{pointBias, pointCdotGrouped, pointMass}
 use Rattle.constraint.specs.Prepare.{prepareBase, awakeIndex, prepareFrame}
 use Rattle.constraint.specs.Answer.{prepared, notPrepared, warmStarted, notWarmStarted, solved, notSolved}
-use Rattle.weld.specs.declared.stages.WeldPrepared.{WeldPrepared}
-use Rattle.weld.specs.declared.stages.WeldSolved.{WeldSolved}
+use Rattle.weld.specs.declared.prepare.WeldPrepared.{WeldPrepared}
+use Rattle.weld.specs.declared.solve.WeldSolved.{WeldSolved}
 
-abbrev pub weldPrepared : JointBase → WeldJoint → WeldPrepared
-weldPrepared base j = record { base = base; joint = j }
-
-abbrev pub weldSolved : WeldJoint → Velocities → WeldSolved
-weldSolved j velocities = record { joint = j; velocities = velocities }
-
--- only the linear and the angular impulse change
+-- the joint with other impulses, and all else as it was: linear, angular
 abbrev pub withImpulses : WeldJoint → Vec3 → Vec3 → WeldJoint
-withImpulses j linearImpulse angularImpulse =
-    record {
-      «linear_hertz» = j .«linear_hertz»;
-      «linear_damping_ratio» = j .«linear_damping_ratio»;
-      «angular_hertz» = j .«angular_hertz»;
-      «angular_damping_ratio» = j .«angular_damping_ratio»;
-      «linear_spring» = j .«linear_spring»;
-      «angular_spring» = j .«angular_spring»;
-      «linear_impulse» = linearImpulse;
-      «angular_impulse» = angularImpulse;
-      «index_a» = j .«index_a»;
-      «index_b» = j .«index_b»;
-      «frame_a» = j .«frame_a»;
-      «frame_b» = j .«frame_b»;
-      «delta_center» = j .«delta_center»;
-      «angular_mass» = j .«angular_mass»;
-    }
+withImpulses j linearImpulse angularImpulse = withWritten j (record { «linear_impulse» = linearImpulse; «angular_impulse» = angularImpulse })
+
+-- ==== Prepare
 
 -- document 01's prepare: weld takes the joint's own softness where a hertz is 0.0, which -0.0 equals
 unfoldable pub rowSpring : Float → Float → Float → Softness → Softness
@@ -74,52 +53,38 @@ rowSpring hertz dampingRatio h constraintSoftness = cond (eq hertz zero) constra
 unfoldable pub keepImpulses : WeldJoint → Bool → WeldJoint
 keepImpulses j enableWarmStarting = cond (not enableWarmStarting) (withImpulses j vec3Zero vec3Zero) j
 
--- what prepare sets, but for the impulses
-abbrev pub withPrepared : WeldJoint → ℤ → ℤ → Transform → Transform → Vec3 → Matrix3 → Softness → Softness → WeldJoint
-withPrepared j indexA indexB frameA frameB deltaCenter angularMass linearSpring angularSpring =
-    record {
-      «linear_hertz» = j .«linear_hertz»;
-      «linear_damping_ratio» = j .«linear_damping_ratio»;
-      «angular_hertz» = j .«angular_hertz»;
-      «angular_damping_ratio» = j .«angular_damping_ratio»;
-      «linear_spring» = linearSpring;
-      «angular_spring» = angularSpring;
-      «linear_impulse» = j .«linear_impulse»;
-      «angular_impulse» = j .«angular_impulse»;
-      «index_a» = indexA;
-      «index_b» = indexB;
-      «frame_a» = frameA;
-      «frame_b» = frameB;
-      «delta_center» = deltaCenter;
-      «angular_mass» = angularMass;
-    }
+abbrev pub weldPrepared : JointBase → WeldJoint → WeldPrepared
+weldPrepared base joint = record { base = base; joint = joint }
 
--- the angular mass is inverted whether or not rotation is fixed
-unfoldable pub prepareWeld : JointBase → WeldJoint → Float → Bool → BodyRecord → BodyRecord → WeldPrepared
-prepareWeld base j h enableWarmStarting bodyA bodyB =
+-- document 01's prepare, where deltaCenter is the difference of the centres. The angular mass is inverted whether or not rotation is fixed
+unfoldable pub prepareWeld : JointBase → WeldJoint → Float → Bool → Vec3 → BodyRecord → BodyRecord → WeldPrepared
+prepareWeld base j h enableWarmStarting deltaCenter bodyA bodyB =
+    let softness = base .«constraint_softness» in
     let invInertiaSum = addMm (bodyA .«inv_inertia_world») (bodyB .«inv_inertia_world») in
-    let s = base .«constraint_softness» in
-    weldPrepared
-    (prepareBase base bodyA bodyB)
-    (keepImpulses
-    (withPrepared
-    j
-    (awakeIndex bodyA)
-    (awakeIndex bodyB)
-    (prepareFrame bodyA (base .«local_frame_a»))
-    (prepareFrame bodyB (base .«local_frame_b»))
-    (subPos (bodyB .center) (bodyA .center))
-    (invertMatrix invInertiaSum)
-    (rowSpring (j .«linear_hertz») (j .«linear_damping_ratio») h s)
-    (rowSpring (j .«angular_hertz») (j .«angular_damping_ratio») h s))
-    enableWarmStarting)
+    let joint =
+    built (writtenOf j) (settingsOf j) (awakeIndex bodyA) (awakeIndex bodyB)
+    (record {
+      «linear_spring» = rowSpring (j .«linear_hertz») (j .«linear_damping_ratio») h softness;
+      «angular_spring» = rowSpring (j .«angular_hertz») (j .«angular_damping_ratio») h softness;
+      «frame_a» = prepareFrame bodyA (base .«local_frame_a»);
+      «frame_b» = prepareFrame bodyB (base .«local_frame_b»);
+      «delta_center» = deltaCenter;
+      «angular_mass» = invertMatrix invInertiaSum;
+    }) in
+    weldPrepared (prepareBase base bodyA bodyB) (keepImpulses joint enableWarmStarting)
+
+-- ==== Warm start
 
 -- the angular impulse as it is: the other kinds add theirs up from the rows'
 unfoldable pub warmStartWeld : JointBase → WeldJoint → BodyState → BodyState → Velocities
-warmStartWeld base j a b =
-    let rA = rotateVector (a .«delta_rotation») (j .«frame_a» .p) in
-    let rB = rotateVector (b .«delta_rotation») (j .«frame_b» .p) in
-    applyWarm (invMassesOf base) rA rB (j .«linear_impulse») (j .«angular_impulse») (velocitiesOf a b)
+warmStartWeld base j stateA stateB =
+    let rA = rotateVector (stateA .«delta_rotation») (j .«frame_a» .p) in
+    let rB = rotateVector (stateB .«delta_rotation») (j .«frame_b» .p) in
+    applyWarm (invMassesOf base) rA rB (j .«linear_impulse») (j .«angular_impulse») (velocitiesOf stateA stateB)
+
+-- ==== Rows
+
+-- Each takes the fields that it reads. The first parameter of a row that can be skipped says whether it is worked; if not, it leaves all as it was.
 
 -- document 01: a weld row also uses its softness without bias if its own hertz is above zero
 unfoldable pub isSoft : Bool → Float → Bool
@@ -137,7 +102,7 @@ unfoldable pub weldAngularRow : Bool → RelativeRotation → Bool → Float →
 weldAngularRow worked rotation useBias hertz s mass oldImpulse m v =
     cond (not worked) (row3 oldImpulse v) (angularRow (angularBias (isSoft useBias hertz) s rotation) mass oldImpulse m v)
 
--- document 01's point row, with its bias; worked also when rotation is fixed. The velocity error is grouped, unlike revolute's and spherical's.
+-- document 01's point row, with its bias; worked also when rotation is fixed. The velocity error is grouped, unlike revolute's and spherical's
 unfoldable pub pointRow : SoftBias3 → Vec3 → Vec3 → Vec3 → InvMasses → Velocities → Row3
 pointRow s rA rB oldImpulse m v =
     let cdot = pointCdotGrouped rA rB v in
@@ -145,44 +110,61 @@ pointRow s rA rB oldImpulse m v =
     let impulse = softImpulse3 s b oldImpulse in
     row3 (add oldImpulse impulse) (applyPoint m rA rB impulse v)
 
--- the angular row at the fields of the joint and the states
-unfoldable pub solveAngular : Bool → WeldJoint → BodyState → BodyState → Bool → InvMasses → Velocities → Row3
-solveAngular fixedRotation j a b useBias m v =
-    let rotation = flippedRelativeRotation (a .«delta_rotation») (j .«frame_a» .q) (b .«delta_rotation») (j .«frame_b» .q) in
+-- ==== Solve
+
+-- where frame B stands relative to frame A. The second quaternion is flipped (spherical's is not)
+unfoldable pub jointRotation : WeldJoint → BodyState → BodyState → RelativeRotation
+jointRotation j stateA stateB = flippedRelativeRotation (stateA .«delta_rotation») (j .«frame_a» .q) (stateB .«delta_rotation») (j .«frame_b» .q)
+
+-- The rows at the fields of the joint and the states. The angular row is skipped when rotation is fixed.
+
+unfoldable pub solveAngular : Bool → WeldJoint → RelativeRotation → Bool → InvMasses → Velocities → Row3
+solveAngular fixedRotation j rotation useBias m v =
     weldAngularRow (not fixedRotation) rotation useBias (j .«angular_hertz») (j .«angular_spring») (j .«angular_mass») (j .«angular_impulse») m v
 
--- the point row at the fields of the joint and the states
+-- the point row's bias, where rA and rB reach from the centres to the anchors
+unfoldable pub solveBias : WeldJoint → Vec3 → Vec3 → BodyState → BodyState → Bool → SoftBias3
+solveBias j rA rB stateA stateB useBias =
+    let soft = isSoft useBias (j .«linear_hertz») in
+    pointBias soft (j .«linear_spring») rA rB (stateA .«delta_position») (stateB .«delta_position») (j .«delta_center»)
+
 unfoldable pub solvePoint : WeldJoint → BodyState → BodyState → Bool → InvMasses → Velocities → Row3
-solvePoint j a b useBias m v =
-    let rA = rotateVector (a .«delta_rotation») (j .«frame_a» .p) in
-    let rB = rotateVector (b .«delta_rotation») (j .«frame_b» .p) in
-    let s = pointBias (isSoft useBias (j .«linear_hertz»)) (j .«linear_spring») rA rB (a .«delta_position») (b .«delta_position») (j .«delta_center») in
-    pointRow s rA rB (j .«linear_impulse») m v
+solvePoint j stateA stateB useBias m v =
+    let rA = rotateVector (stateA .«delta_rotation») (j .«frame_a» .p) in
+    let rB = rotateVector (stateB .«delta_rotation») (j .«frame_b» .p) in
+    pointRow (solveBias j rA rB stateA stateB useBias) rA rB (j .«linear_impulse») m v
+
+abbrev pub weldSolved : WeldJoint → Velocities → WeldSolved
+weldSolved joint velocities = record { joint = joint; velocities = velocities }
 
 -- document 01's rows of a weld solve, in order: angular, point
 unfoldable pub solveWeld : JointBase → WeldJoint → BodyState → BodyState → Bool → WeldSolved
-solveWeld base j a b useBias =
+solveWeld base j stateA stateB useBias =
     let m = invMassesOf base in
-    let angular = solveAngular (base .«fixed_rotation») j a b useBias m (velocitiesOf a b) in
-    let point = solvePoint j a b useBias m (angular .velocities) in
+    let rotation = jointRotation j stateA stateB in
+    let angular = solveAngular (base .«fixed_rotation») j rotation useBias m (velocitiesOf stateA stateB) in
+    let point = solvePoint j stateA stateB useBias m (angular .velocities) in
     weldSolved (withImpulses j (point .impulse) (angular .impulse)) (point .velocities)
 
--- ---- the stages over a joint of any kind: one whose case is not Weld gets number 1, place 0, and nothing is altered
+-- ==== The stages over a joint of any kind
+
+-- A joint whose case is not Weld gets number 1, place 0, and nothing is altered.
 
 -- of the context h and enable_warm_starting
 unfoldable pub prepareWeldJoint : JointSim → StepContext → BodyRecord → BodyRecord → Prepared
 prepareWeldJoint sim context bodyA bodyB =
     Option·elim (asWeld (sim .«union_»)) (notPrepared sim) λ j.
-    let p = prepareWeld (sim .base) j (context .h) (context .«enable_warm_starting») bodyA bodyB in
-    prepared (jointSim (p .base) (Weld (p .joint)))
+    let deltaCenter = subPos (bodyB .center) (bodyA .center) in
+    let r = prepareWeld (sim .base) j (context .h) (context .«enable_warm_starting») deltaCenter bodyA bodyB in
+    prepared (jointSim (r .base) (Weld (r .joint)))
 
 unfoldable pub warmStartWeldJoint : JointSim → BodyState → BodyState → WarmStarted
-warmStartWeldJoint sim a b =
-    Option·elim (asWeld (sim .«union_»)) (notWarmStarted sim a b) λ j. warmStarted sim (warmStartWeld (sim .base) j a b)
+warmStartWeldJoint sim stateA stateB =
+    Option·elim (asWeld (sim .«union_»)) (notWarmStarted sim stateA stateB) λ j. warmStarted sim (warmStartWeld (sim .base) j stateA stateB)
 
 -- of the context nothing
 unfoldable pub solveWeldJoint : JointSim → StepContext → BodyState → BodyState → Bool → Solved
-solveWeldJoint sim context a b useBias =
-    Option·elim (asWeld (sim .«union_»)) (notSolved sim a b) λ j.
-    let s = solveWeld (sim .base) j a b useBias in
-    solved (jointSim (sim .base) (Weld (s .joint))) (s .velocities)
+solveWeldJoint sim context stateA stateB useBias =
+    Option·elim (asWeld (sim .«union_»)) (notSolved sim stateA stateB) λ j.
+    let r = solveWeld (sim .base) j stateA stateB useBias in
+    solved (afterStage sim (Weld (r .joint))) (r .velocities)

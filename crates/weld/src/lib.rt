@@ -4,14 +4,19 @@ ghost use mathlib.Core.Path.{_≡_};
 ghost use Rattle.records.specs.Joint.{jointSim};
 ghost use Rattle.records.specs.declared.joint.JointUnion.the-variants.{Weld};
 ghost use Rattle.weld.specs.Weld as D;
-use crate::stages::prepare_weld;
-use crate::stages::solve_weld;
-use crate::stages::warm_start_weld;
+use crate::prepare::prepare_weld;
+use crate::solve::solve_weld;
+use crate::warm_start::warm_start_weld;
 use constraint::answer::Prepared;
 use constraint::answer::Solved;
-use constraint::answer::WRONG_KIND;
 use constraint::answer::WarmStarted;
-use constraint::velocity::velocities_of;
+use constraint::answer::prepare_done;
+use constraint::answer::prepare_refused;
+use constraint::answer::solve_done;
+use constraint::answer::solve_refused;
+use constraint::answer::warm_start_done;
+use constraint::answer::warm_start_refused;
+use math_functions::transform::sub_pos;
 use records::body::BodyRecord;
 use records::body::BodyState;
 use records::joint::JointBase;
@@ -20,8 +25,10 @@ use records::joint::JointUnion;
 use records::joint::WeldJoint;
 use solver::StepContext;
 
+mod prepare;
 mod rows;
-mod stages;
+mod solve;
+mod warm_start;
 
 // A joint of this kind.
 fn weld_sim(base: JointBase, joint: WeldJoint) -> JointSim
@@ -44,26 +51,20 @@ pub fn prepare_weld_joint(
 {
     let u = joint.union_;
     let JointUnion::Weld(k) = u else {
-        return Prepared {
-            number: WRONG_KIND,
-            place: 0,
-            joint,
-        };
+        return prepare_refused(joint);
     };
+    let delta_center = sub_pos(body_b.center, body_a.center);
     let p = prepare_weld(
         joint.base,
         k,
         context.h,
         context.enable_warm_starting,
+        delta_center,
         body_a,
         body_b,
     );
     joint = weld_sim(p.base, p.joint);
-    Prepared {
-        number: 0,
-        place: 0,
-        joint,
-    }
+    prepare_done(joint)
 }
 
 // Warm start; a joint that is no weld joint is refused.
@@ -72,20 +73,10 @@ pub fn warm_start_weld_joint(joint: JointSim, state_a: BodyState, state_b: BodyS
 {
     let u = joint.union_;
     let JointUnion::Weld(k) = u else {
-        return WarmStarted {
-            number: WRONG_KIND,
-            place: 0,
-            joint,
-            velocities: velocities_of(state_a, state_b),
-        };
+        return warm_start_refused(joint, state_a, state_b);
     };
     let velocities = warm_start_weld(joint.base, k, state_a, state_b);
-    WarmStarted {
-        number: 0,
-        place: 0,
-        joint,
-        velocities,
-    }
+    warm_start_done(joint, velocities)
 }
 
 // Solve; a joint that is no weld joint is refused. `context` is unused, as in the Rust.
@@ -100,20 +91,10 @@ pub fn solve_weld_joint(
 {
     let u = joint.union_;
     let JointUnion::Weld(k) = u else {
-        return Solved {
-            number: WRONG_KIND,
-            place: 0,
-            joint,
-            velocities: velocities_of(state_a, state_b),
-        };
+        return solve_refused(joint, state_a, state_b);
     };
     let s = solve_weld(joint.base, k, state_a, state_b, use_bias);
     let velocities = s.velocities;
     joint = weld_sim(joint.base, s.joint);
-    Solved {
-        number: 0,
-        place: 0,
-        joint,
-        velocities,
-    }
+    solve_done(joint, velocities)
 }

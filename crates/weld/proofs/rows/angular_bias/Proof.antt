@@ -4,7 +4,13 @@ use Rattle.weld.proofs.rows.angular_bias.Tie as tie
 
 returns : tie.Need-returns
 unfolding angularBias
-returns c = rw (← (c .before .before .before .delta-quat-to-rotation .ensures), ← (c .before .before .rotate-vector .ensures), ← (c .before .neg .ensures), ← (c .soft-bias3 .ensures), c .before .before .before .before .if1 .taken)
+returns c = rw (
+  ← (c .before .before .before .delta-quat-to-rotation .ensures),
+  ← (c .before .before .rotate-vector .ensures),
+  ← (c .before .neg .ensures),
+  ← (c .soft-bias3 .ensures),
+  c .before .before .before .before .if1 .taken,
+)
 
 returns-2 : tie.Need-returns-2
 unfolding angularBias

@@ -11,6 +11,7 @@ use Rattle.records.specs.declared.body.BodyRecord.{BodyRecord}
 use Rattle.records.specs.declared.joint.WeldJoint.{WeldJoint}
 use Rattle.records.specs.declared.joint.JointBase.{JointBase}
 use Rattle.records.specs.declared.joint.JointSim.{JointSim}
+use Rattle.records.specs.Weld.{withIndices}
 use Rattle.records.specs.Joint.{asWeld, isWeld}
 use Rattle.constraint.specs.declared.answer.Prepared.{Prepared}
 use Rattle.constraint.specs.declared.answer.WarmStarted.{WarmStarted}
@@ -18,29 +19,10 @@ use Rattle.constraint.specs.declared.answer.Solved.{Solved}
 use Rattle.constraint.specs.Velocity.{velocitiesOf}
 use Rattle.constraint.specs.Prepare.{prepareBase}
 use Rattle.constraint.specs.Answer.{notPrepared, notWarmStarted, notSolved}
-use Rattle.constraint.specs.Facts.{AtMostOne, zero-at-most, one-at-most, always, kept, numbered, refused, case-kept, accepted}
-use Rattle.weld.specs.Weld.{withImpulses, weldSolved, warmStartWeld, solveAngular, solvePoint, solveWeld}
+use Rattle.constraint.specs.Claims.{AtMostOne}
+use Rattle.constraint.proofs.Facts.{zero-at-most, one-at-most, always, kept, numbered, refused, case-kept, accepted}
+use Rattle.weld.specs.Weld.{withImpulses, weldSolved, warmStartWeld, jointRotation, solveAngular, solveBias, solvePoint, solveWeld}
 use Rattle.weld.specs.Weld.{prepareWeld, prepareWeldJoint, warmStartWeldJoint, solveWeldJoint}
-
--- the joint with other indices
-abbrev pub withIndices : WeldJoint → ℤ → ℤ → WeldJoint
-withIndices j indexA indexB =
-    record {
-      «linear_hertz» = j .«linear_hertz»;
-      «linear_damping_ratio» = j .«linear_damping_ratio»;
-      «angular_hertz» = j .«angular_hertz»;
-      «angular_damping_ratio» = j .«angular_damping_ratio»;
-      «linear_spring» = j .«linear_spring»;
-      «angular_spring» = j .«angular_spring»;
-      «linear_impulse» = j .«linear_impulse»;
-      «angular_impulse» = j .«angular_impulse»;
-      «index_a» = indexA;
-      «index_b» = indexB;
-      «frame_a» = j .«frame_a»;
-      «frame_b» = j .«frame_b»;
-      «delta_center» = j .«delta_center»;
-      «angular_mass» = j .«angular_mass»;
-    }
 
 -- ---- the stages by value
 
@@ -53,7 +35,7 @@ solve-keeps base j a b useBias = refl
 -- the indices are handed on unread
 pub solve-indices : (base : JointBase) (j : WeldJoint) (a b : BodyState) (useBias : Bool) (x y : ℤ)
     → let s = solveWeld base j a b useBias in solveWeld base (withIndices j x y) a b useBias ≡ weldSolved (withIndices (s .joint) x y) (s .velocities)
-unfolding solveWeld solveAngular solvePoint
+unfolding solveWeld jointRotation solveAngular solvePoint solveBias
 solve-indices base j a b useBias x y = refl
 
 pub warm-start-indices : (base : JointBase) (j : WeldJoint) (a b : BodyState) (x y : ℤ) → warmStartWeld base (withIndices j x y) a b ≡ warmStartWeld base j a b
@@ -63,10 +45,11 @@ warm-start-indices base j a b x y = refl
 -- of a state its velocities, delta position and delta rotation are read, and not its flags
 pub solve-flags : (base : JointBase) (j : WeldJoint) (a b : BodyState) (useBias : Bool) (x y : ℕ)
     → solveWeld base j (withFlags a x) (withFlags b y) useBias ≡ solveWeld base j a b useBias
-unfolding solveWeld solveAngular solvePoint velocitiesOf
+unfolding solveWeld jointRotation solveAngular solvePoint solveBias velocitiesOf
 solve-flags base j a b useBias x y = refl
 
-pub warm-start-flags : (base : JointBase) (j : WeldJoint) (a b : BodyState) (x y : ℕ) → warmStartWeld base j (withFlags a x) (withFlags b y) ≡ warmStartWeld base j a b
+pub warm-start-flags : (base : JointBase) (j : WeldJoint) (a b : BodyState) (x y : ℕ)
+    → warmStartWeld base j (withFlags a x) (withFlags b y) ≡ warmStartWeld base j a b
 unfolding warmStartWeld velocitiesOf
 warm-start-flags base j a b x y = refl
 
@@ -84,7 +67,8 @@ pub prepare-context : (sim : JointSim) (c d : StepContext) (bodyA bodyB : BodyRe
 unfolding prepareWeldJoint
 prepare-context sim c d bodyA bodyB same-h same-warm = rw (same-h, same-warm)
 
-pub solve-context : (sim : JointSim) (c d : StepContext) (a b : BodyState) (useBias : Bool) → solveWeldJoint sim c a b useBias ≡ solveWeldJoint sim d a b useBias
+pub solve-context : (sim : JointSim) (c d : StepContext) (a b : BodyState) (useBias : Bool)
+    → solveWeldJoint sim c a b useBias ≡ solveWeldJoint sim d a b useBias
 unfolding solveWeldJoint
 solve-context sim c d a b useBias = refl
 

@@ -1,6 +1,6 @@
 use Rattle.weld.specs.Weld.{keepImpulses}
-use Rattle.weld.proofs.stages.keep_impulses.Statement.{statement}
-use Rattle.weld.proofs.stages.keep_impulses.Tie as tie
+use Rattle.weld.proofs.prepare.keep_impulses.Statement.{statement}
+use Rattle.weld.proofs.prepare.keep_impulses.Tie as tie
 
 returns : tie.Need-returns
 unfolding keepImpulses

@@ -1,6 +1,6 @@
 use Rattle.weld.specs.Weld.{rowSpring}
-use Rattle.weld.proofs.stages.row_spring.Statement.{statement}
-use Rattle.weld.proofs.stages.row_spring.Tie as tie
+use Rattle.weld.proofs.prepare.row_spring.Statement.{statement}
+use Rattle.weld.proofs.prepare.row_spring.Tie as tie
 
 returns : tie.Need-returns
 unfolding rowSpring
