@@ -23,7 +23,12 @@ module _ (base : JointBase) (context : StepContext) (bodyA bodyB : BodyRecord) w
   -- a case that is one of the three is worked
   done : (u : JointUnion) → (u ≡ Other → ⊥) → answer u .number ≡ 0 → answer u .place ≡ 0 → PrepareAnswer (jointSim base u) context bodyA bodyB
   done u not number place =
-      record { refused = (λ e. absurd (omega (arith, e, number)), λ e. absurd (not e)); number-bound = omega (arith, number); place-zero = place; unaltered = λ e. absurd (not e) }
+      record {
+        refused = (λ e. absurd (omega (arith, e, number)), λ e. absurd (not e));
+        number-bound = omega (arith, number);
+        place-zero = place;
+        unaltered = λ e. absurd (not e);
+      }
 
   by-case : (u : JointUnion) → PrepareAnswer (jointSim base u) context bodyA bodyB
   unfolding prepareAs prepareRevoluteJoint prepareSphericalJoint prepareWeldJoint Option·elim

@@ -21,6 +21,6 @@ not-negative : (z : ℤ) → SFits w32 z → ltZ z (pos 0) ≡ false → T (nonN
 not-negative (pos i) f h = (tt, record { fits = omega (arith, f .sfits) })
 not-negative (negsuc i) f h = absurd (true≢false h)
 
--- a number that is not negative is cast to a place
+-- a number that is not negative can be cast to an unsigned one
 pub cast-fits : {z : ℤ} → SFits w32 z → ltZ (bits z) (pos 0) ≡ false → T (nonNeg (bits z)) × Fits w64 (natAbs (bits z))
 cast-fits {z} f h = let same = toZ-ofZ w32 z f in rw same (not-negative z f (rw same at h))

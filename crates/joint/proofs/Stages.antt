@@ -1,25 +1,28 @@
--- The stages by value of the three kinds as one, by the number of the kind; and that on a joint of that kind they leave what the stage of the joint leaves. Assumes nothing.
+-- The stages of the three kinds as one, by the kind's number: on a joint of that kind they are the stage of the joint. And what a stage of a joint of any kind
+-- keeps and reads. Assumes nothing.
 --     warmStartOf, solveOf      `warmStartRevoluteJoint`, say, is `warmStartOf 0`
 use mathlib.Core.Path.{_≡_, refl, sym}
 use mathlib.Core.Bool.{Bool, cond}
-use mathlib.Core.Option.{Option·elim}
 use Prim.Native.Nat.{ℕ, _<_}
 use native.Mathlib.Omega.{arith}
 use lib.Dec.{eqb}
 use Rattle.solver.specs.declared.StepContext.{StepContext}
 use Rattle.records.specs.declared.body.BodyState.{BodyState}
-use Rattle.records.specs.declared.joint.JointBase.{JointBase}
 use Rattle.records.specs.declared.joint.JointSim.{JointSim}
 use Rattle.records.specs.declared.joint.JointUnion.{JointUnion}
 use Rattle.records.specs.declared.joint.JointUnion.the-variants.{Revolute, Spherical, Weld, Other}
-use Rattle.records.specs.Joint.{caseOf, jointSim}
+use Rattle.records.specs.Joint.{caseOf}
 use Rattle.constraint.specs.declared.answer.WarmStarted.{WarmStarted}
 use Rattle.constraint.specs.declared.answer.Solved.{Solved}
-use Rattle.constraint.specs.Answer.{warmStarted, solved}
 use Rattle.revolute.specs.Revolute.{warmStartRevoluteJoint, solveRevoluteJoint}
 use Rattle.spherical.specs.Spherical.{warmStartSphericalJoint, solveSphericalJoint}
 use Rattle.weld.specs.Weld.{warmStartWeldJoint, solveWeldJoint}
-use Rattle.joint.specs.Stage.{warmStartJoint, solveJoint}
+use Rattle.revolute.proofs.Facts as Revolute-facts
+use Rattle.spherical.proofs.Facts as Spherical-facts
+use Rattle.weld.proofs.Facts as Weld-facts
+use Rattle.joint.specs.Stage.{warmStartAs, warmStartJoint, solveAs, solveJoint, stageJoint}
+
+-- ---- by the kind's number
 
 abbrev pub warmStartOf : ℕ → JointSim → BodyState → BodyState → WarmStarted
 warmStartOf kind joint a b =
@@ -30,29 +33,52 @@ solveOf kind joint context a b useBias =
     cond (eqb kind 0) (solveRevoluteJoint joint context a b useBias)
     (cond (eqb kind 1) (solveSphericalJoint joint context a b useBias) (solveWeldJoint joint context a b useBias))
 
-module _ (base : JointBase) (a b : BodyState) where
-  warmed : (u : JointUnion) → caseOf u < 3 → warmStartOf (caseOf u) (jointSim base u) a b ≡ warmStarted (jointSim base u) (warmStartJoint u base a b)
-  unfolding warmStartJoint warmStartRevoluteJoint warmStartSphericalJoint warmStartWeldJoint Option·elim
-  warmed (Revolute j) h = refl
-  warmed (Spherical j) h = refl
-  warmed (Weld j) h = refl
-  warmed Other h = absurd (omega arith)
+module _ (joint : JointSim) (a b : BodyState) where
+  warm-start-by : (u : JointUnion) → caseOf u < 3 → warmStartOf (caseOf u) joint a b ≡ warmStartAs u joint a b
+  unfolding warmStartAs
+  warm-start-by (Revolute j) h = refl
+  warm-start-by (Spherical j) h = refl
+  warm-start-by (Weld j) h = refl
+  warm-start-by Other h = absurd (omega arith)
 
-  module _ (context : StepContext) (useBias : Bool) where
-    worked : (u : JointUnion) → caseOf u < 3
-        → let r = solveJoint u base (context .h) (context .«inv_h») a b useBias in
-        solveOf (caseOf u) (jointSim base u) context a b useBias ≡ solved (jointSim base (r .«union_»)) (r .velocities)
-    unfolding solveJoint solveRevoluteJoint solveSphericalJoint solveWeldJoint Option·elim
-    worked (Revolute j) h = refl
-    worked (Spherical j) h = refl
-    worked (Weld j) h = refl
-    worked Other h = absurd (omega arith)
+  solve-by : (context : StepContext) (useBias : Bool) (u : JointUnion) → caseOf u < 3
+      → solveOf (caseOf u) joint context a b useBias ≡ solveAs u joint context a b useBias
+  unfolding solveAs
+  solve-by context useBias (Revolute j) h = refl
+  solve-by context useBias (Spherical j) h = refl
+  solve-by context useBias (Weld j) h = refl
+  solve-by context useBias Other h = absurd (omega arith)
 
 module _ (kind : ℕ) (joint : JointSim) (a b : BodyState) (is : caseOf (joint .«union_») ≡ kind) (h : kind < 3) where
-  pub warm-start-of : warmStartOf kind joint a b ≡ warmStarted joint (warmStartJoint (joint .«union_») (joint .base) a b)
-  warm-start-of = rw (sym is) (warmed (joint .base) a b (joint .«union_») (omega (arith, is)))
+  pub warm-start-of : warmStartOf kind joint a b ≡ warmStartJoint joint a b
+  warm-start-of = rw (sym is) (warm-start-by joint a b (joint .«union_») (omega (arith, is)))
 
-  pub solve-of : (context : StepContext) (useBias : Bool)
-      → let r = solveJoint (joint .«union_») (joint .base) (context .h) (context .«inv_h») a b useBias in
-      solveOf kind joint context a b useBias ≡ solved (jointSim (joint .base) (r .«union_»)) (r .velocities)
-  solve-of context useBias = rw (sym is) (worked (joint .base) a b context useBias (joint .«union_») (omega (arith, is)))
+  pub solve-of : (context : StepContext) (useBias : Bool) → solveOf kind joint context a b useBias ≡ solveJoint joint context a b useBias
+  solve-of context useBias = rw (sym is) (solve-by joint a b context useBias (joint .«union_») (omega (arith, is)))
+
+-- ---- of any kind
+
+module _ (joint : JointSim) (a b : BodyState) where
+  warm-start-kept : (u : JointUnion) → warmStartAs u joint a b .joint ≡ joint
+  unfolding warmStartAs
+  warm-start-kept (Revolute j) = Revolute-facts.warm-start-joint joint a b
+  warm-start-kept (Spherical j) = Spherical-facts.warm-start-joint joint a b
+  warm-start-kept (Weld j) = Weld-facts.warm-start-joint joint a b
+  warm-start-kept Other = refl
+
+  -- a warm start leaves the joint as it was
+  pub warm-start-joint : warmStartJoint joint a b .joint ≡ joint
+  warm-start-joint = warm-start-kept (joint .«union_»)
+
+  module _ (c d : StepContext) (same-h : c .h ≡ d .h) (same-inv-h : c .«inv_h» ≡ d .«inv_h») where
+    context-read : (useBias : Bool) (u : JointUnion) → solveAs u joint c a b useBias ≡ solveAs u joint d a b useBias
+    unfolding solveAs
+    context-read useBias (Revolute j) = Revolute-facts.solve-context joint c d a b useBias same-h same-inv-h
+    context-read useBias (Spherical j) = Spherical-facts.solve-context joint c d a b useBias same-h same-inv-h
+    context-read useBias (Weld j) = Weld-facts.solve-context joint c d a b useBias
+    context-read useBias Other = refl
+
+    -- of a context a stage reads no more than h and inv_h
+    pub stage-context : (stage : ℕ) → stageJoint joint c a b stage ≡ stageJoint joint d a b stage
+    unfolding stageJoint
+    stage-context stage = rw (context-read (eqb stage 1) (joint .«union_»))

@@ -1,5 +1,5 @@
--- The claims of specs/Claims.antt, proved, each under its statement's name in small letters. Assumes nothing.
-use mathlib.Core.Path.{_≡_, refl, sym, ap, _∙_}
+-- The claims of specs/Claims.antt on the stop code, proved, each under its statement's name in small letters. Assumes nothing.
+use mathlib.Core.Path.{_≡_, refl, ap, _∙_}
 use mathlib.Core.Logic.{_≢_, _↔_}
 use mathlib.Core.Bool.{Bool, true, false, cond, _&&_, false≢true}
 use Prim.Native.Nat.{ℕ, _+_, _*_, _≤_}

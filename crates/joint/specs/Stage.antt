@@ -1,46 +1,54 @@
--- One stage of a joint of any kind, on the part of the joint that a stage may change. Definitions only. Assumes nothing.
+-- One stage of a joint of any kind: a warm start or a solve. Definitions only. Assumes nothing.
 use mathlib.Core.Bool.{Bool, cond}
 use Prim.Native.Nat.{ℕ}
 use lib.Dec.{eqb}
-use lib.Ieee.{Float}
+use Rattle.solver.specs.declared.StepContext.{StepContext}
 use Rattle.records.specs.declared.body.BodyState.{BodyState}
-use Rattle.records.specs.declared.joint.JointBase.{JointBase}
+use Rattle.records.specs.declared.joint.JointSim.{JointSim}
 use Rattle.records.specs.declared.joint.JointUnion.{JointUnion}
 use Rattle.records.specs.declared.joint.JointUnion.the-variants.{Revolute, Spherical, Weld, Other}
 use Rattle.constraint.specs.declared.velocity.Velocities.{Velocities}
-use Rattle.constraint.specs.Velocity.{velocitiesOf}
-use Rattle.revolute.specs.Revolute.{warmStartRevolute, solveRevolute}
-use Rattle.spherical.specs.Spherical.{warmStartSpherical, solveSpherical}
-use Rattle.weld.specs.Weld.{warmStartWeld, solveWeld}
+use Rattle.constraint.specs.declared.answer.WarmStarted.{WarmStarted}
+use Rattle.constraint.specs.declared.answer.Solved.{Solved}
+use Rattle.constraint.specs.Answer.{notWarmStarted, notSolved}
+use Rattle.revolute.specs.Revolute.{warmStartRevoluteJoint, solveRevoluteJoint}
+use Rattle.spherical.specs.Spherical.{warmStartSphericalJoint, solveSphericalJoint}
+use Rattle.weld.specs.Weld.{warmStartWeldJoint, solveWeldJoint}
 
--- what a stage leaves: the kind's record, and the velocities. The base of a joint never changes
+-- by the joint's case; the empty one is refused, and leaves all as it was
+unfoldable pub warmStartAs : JointUnion → JointSim → BodyState → BodyState → WarmStarted
+warmStartAs (Revolute j) joint stateA stateB = warmStartRevoluteJoint joint stateA stateB
+warmStartAs (Spherical j) joint stateA stateB = warmStartSphericalJoint joint stateA stateB
+warmStartAs (Weld j) joint stateA stateB = warmStartWeldJoint joint stateA stateB
+warmStartAs Other joint stateA stateB = notWarmStarted joint stateA stateB
+
+abbrev pub warmStartJoint : JointSim → BodyState → BodyState → WarmStarted
+warmStartJoint joint stateA stateB = warmStartAs (joint .«union_») joint stateA stateB
+
+unfoldable pub solveAs : JointUnion → JointSim → StepContext → BodyState → BodyState → Bool → Solved
+solveAs (Revolute j) joint context stateA stateB useBias = solveRevoluteJoint joint context stateA stateB useBias
+solveAs (Spherical j) joint context stateA stateB useBias = solveSphericalJoint joint context stateA stateB useBias
+solveAs (Weld j) joint context stateA stateB useBias = solveWeldJoint joint context stateA stateB useBias
+solveAs Other joint context stateA stateB useBias = notSolved joint stateA stateB
+
+abbrev pub solveJoint : JointSim → StepContext → BodyState → BodyState → Bool → Solved
+solveJoint joint context stateA stateB useBias = solveAs (joint .«union_») joint context stateA stateB useBias
+
+-- what a stage leaves: the joint, and the velocities of its two bodies
 pub record Staged : Type 0 where
-  pub «union_» : JointUnion
+  pub joint : JointSim
   pub velocities : Velocities
 
-abbrev pub staged : JointUnion → Velocities → Staged
-staged union velocities = record { «union_» = union; velocities = velocities }
+abbrev pub staged : JointSim → Velocities → Staged
+staged joint velocities = record { joint = joint; velocities = velocities }
 
--- by the joint's case; the empty one leaves all as it was
-unfoldable pub warmStartJoint : JointUnion → JointBase → BodyState → BodyState → Velocities
-warmStartJoint (Revolute j) base stateA stateB = warmStartRevolute base j stateA stateB
-warmStartJoint (Spherical j) base stateA stateB = warmStartSpherical base j stateA stateB
-warmStartJoint (Weld j) base stateA stateB = warmStartWeld base j stateA stateB
-warmStartJoint Other base stateA stateB = velocitiesOf stateA stateB
+abbrev pub ofWarmStart : WarmStarted → Staged
+ofWarmStart r = staged (r .joint) (r .velocities)
 
-unfoldable pub solveJoint : JointUnion → JointBase → Float → Float → BodyState → BodyState → Bool → Staged
-solveJoint (Revolute j) base h invH stateA stateB useBias =
-    let s = solveRevolute base j h invH stateA stateB useBias in
-    staged (Revolute (s .joint)) (s .velocities)
-solveJoint (Spherical j) base h invH stateA stateB useBias =
-    let s = solveSpherical base j h invH stateA stateB useBias in
-    staged (Spherical (s .joint)) (s .velocities)
-solveJoint (Weld j) base h invH stateA stateB useBias =
-    let s = solveWeld base j stateA stateB useBias in
-    staged (Weld (s .joint)) (s .velocities)
-solveJoint Other base h invH stateA stateB useBias = staged Other (velocitiesOf stateA stateB)
+abbrev pub ofSolve : Solved → Staged
+ofSolve r = staged (r .joint) (r .velocities)
 
--- document 01's stages: 0 warm start, 1 solve with bias, 2 solve without, and so is any other, which no accepted call has. A warm start only reads the joint
-unfoldable pub stageJoint : JointUnion → JointBase → Float → Float → BodyState → BodyState → ℕ → Staged
-stageJoint union base h invH stateA stateB stage =
-    cond (eqb stage 0) (staged union (warmStartJoint union base stateA stateB)) (solveJoint union base h invH stateA stateB (eqb stage 1))
+-- document 01's stages: 0 warm start, 1 solve with bias, 2 solve without, and so is any other, which no accepted call has
+unfoldable pub stageJoint : JointSim → StepContext → BodyState → BodyState → ℕ → Staged
+stageJoint joint context stateA stateB stage =
+    cond (eqb stage 0) (ofWarmStart (warmStartJoint joint stateA stateB)) (ofSolve (solveJoint joint context stateA stateB (eqb stage 1)))

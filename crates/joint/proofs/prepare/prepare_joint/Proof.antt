@@ -11,7 +11,8 @@ use Rattle.joint.proofs.prepare.prepare_joint.Statement.{statement}
 use Rattle.joint.proofs.prepare.prepare_joint.Tie as tie
 
 -- what the arm of a case answers is what the joint's own case does
-by-case : (joint : JointSim) (context : StepContext) (a b : BodyRecord) (u : JointUnion) (r : Prepared) → joint .«union_» ≡ u → r ≡ prepareAs u joint context a b
+by-case : (joint : JointSim) (context : StepContext) (a b : BodyRecord) (u : JointUnion) (r : Prepared)
+    → joint .«union_» ≡ u → r ≡ prepareAs u joint context a b
     → r ≡ prepareJoint joint context a b
 by-case joint context a b u r e g = g ∙ sym (ap (λ x. prepareAs x joint context a b) e)
 
@@ -33,4 +34,5 @@ returns-4 c = rw (c .enum-told4 .given .1)
 
 pub prepare-joint-spec : {M : Type 1} → statement M
 prepare-joint-spec =
-    tie.close (tie.spec (λ c. search needs) (λ c κs. tt) (λ c. search needs) (λ c κs. tt) (λ c. search needs) (λ c κs. tt) (λ c. search needs) returns returns-2 returns-3 returns-4)
+    tie.close (tie.spec (λ c. search needs) (λ c κs. tt) (λ c. search needs) (λ c κs. tt) (λ c. search needs) (λ c κs. tt) (λ c. search needs)
+    returns returns-2 returns-3 returns-4)
