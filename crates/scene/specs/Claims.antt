@@ -1,5 +1,12 @@
--- What holds of every run of a call list on a scene, in document 01's words. Statements only: each is proved in Proved.antt, under the same name in small
--- letters. They are about the plain run (`plainRun`), which the program's run equals for every scene and every list. Assumes nothing.
+-- What holds of every run of a call list on a scene, in document 01's words. Statements only: each is proved in proofs/Proved.antt, under the same name in
+-- small letters. Assumes nothing.
+--
+-- They are about the plain run. The program's run is the function `run_list` of the crate `call_list`, and its contract is that it answers the plain run,
+-- number, place, still and the whole scene, for every scene and every list of bytes:
+--
+--     run_list scene list ≡ plainRun scene list
+--
+-- So each statement about `plainRun` is one about `run_list`.
 use mathlib.Core.Path.{_≡_}
 use mathlib.Core.Logic.{_⊎_, _≢_, _↔_}
 use mathlib.Core.Bool.{Bool, true, false}
@@ -9,21 +16,20 @@ use lib.Ieee.{Float, nan}
 use lib.IntN.{ℤ, pos, negsuc}
 use lib.ListN.{length}
 use Rattle.math_functions.specs.declared.types.Vec3.{Vec3}
-use Rattle.math_functions.specs.Float.{eq, zero, two}
-use Rattle.math_functions.specs.Types.{vec2Zero, vec3Zero}
+use Rattle.math_functions.specs.Float.{eq, two}
 use Rattle.records.specs.declared.body.BodyState.{BodyState}
 use Rattle.records.specs.declared.joint.JointSim.{JointSim}
 use Rattle.records.specs.declared.joint.JointUnion.{JointUnion}
 use Rattle.records.specs.declared.joint.JointUnion.the-variants.{Revolute, Spherical, Weld, Other}
-use Rattle.constraint.specs.Facts.{NonNegative}
-use Rattle.revolute.specs.Revolute as R
-use Rattle.spherical.specs.Spherical as S
-use Rattle.weld.specs.Weld as W
-use Rattle.scene.specs.declared.Scene.{Scene}
-use Rattle.joint.specs.Index.{indexA, indexB}
 use Rattle.records.specs.Joint.{caseOf}
+use Rattle.records.specs.Revolute as R
+use Rattle.records.specs.Spherical as S
+use Rattle.records.specs.Weld as W
+use Rattle.constraint.specs.Claims.{NonNegative}
+use Rattle.joint.specs.Index.{indexA, indexB}
+use Rattle.scene.specs.declared.Scene.{Scene}
 use Rattle.scene.specs.Scene.{jointAt, bodyAt, Dynamic, Names, ShareDynamic}
-use Rattle.scene.specs.Calls.{Call, calls, Listed, Solved, onlyOf, onlyOfTwo}
+use Rattle.scene.specs.Calls.{Call, calls, Listed, SolveListed, onlyOf, onlyOfTwo}
 use Rattle.scene.specs.Plain.{Accepted, runCalls, plainRun}
 use Rattle.scene.specs.Chain.{four, chain, firstThenSecond, secondThenFirst}
 
@@ -69,7 +75,12 @@ test number place cause = record { number = number; place = place; cause = cause
 abbrev pub callTests : Scene → ℕ → List Call → List Test
 callTests s place [] = []
 callTests s place (c ∷ l) =
-    test 4 place (Cause4 s c) ∷ test 5 place (Cause5 c) ∷ test 1 place (Cause1 s c) ∷ test 2 place (Cause2 s c) ∷ test 3 place (Cause3 s c) ∷ callTests s (place + 1) l
+    test 4 place (Cause4 s c)
+    ∷ test 5 place (Cause5 c)
+    ∷ test 1 place (Cause1 s c)
+    ∷ test 2 place (Cause2 s c)
+    ∷ test 3 place (Cause3 s c)
+    ∷ callTests s (place + 1) l
 
 -- the tests of a run, in their order: 6, 7, then the calls from the first on
 abbrev pub tests : Scene → List ℕ → List Test
@@ -174,7 +185,8 @@ EmptyList = (s : Scene) → OfEmpty s
 
 -- Two accepted lists whose calls read the same when only one joint's are kept, whichever joint, and when only those of two joints that share a dynamic body are
 -- kept, whichever two, give the same answer: number, place, still and the whole scene. Which joints share a dynamic body is read off the scene at the start.
--- Nothing more is asked of joints that share only a body that is not dynamic, or none (-1), of a joint with both indices on one body, or of joints that are not listed.
+-- Nothing more is asked of joints that share only a body that is not dynamic, or none (-1), of a joint with both indices on one body, or of joints that are
+-- not listed.
 abbrev pub Order : Type 0
 Order = (s : Scene) (l₁ l₂ : List ℕ) → Accepted s l₁ → Accepted s l₂
     → ((j : ℕ) → onlyOf j (calls l₁) ≡ onlyOf j (calls l₂))
@@ -196,12 +208,12 @@ pub record OnlyVelocities (before after : BodyState) : Type 0 where
   pub delta-rotation : after .«delta_rotation» ≡ before .«delta_rotation»
   pub flags : after .flags ≡ before .flags
 
--- a joint's record with what a solve writes set to zero: the impulses, and revolute's two perpendicular axes. Left are the settings, the switches among them, the
--- indices and what prepare made
+-- a joint's record with what a solve writes set to zero: the impulses, and revolute's two perpendicular axes. Left are the settings, the switches among them,
+-- the indices and what prepare made
 abbrev pub settingsOf : JointUnion → JointUnion
-settingsOf (Revolute r) = Revolute (R.withImpulses r vec3Zero vec2Zero zero zero zero zero vec3Zero vec3Zero)
-settingsOf (Spherical r) = Spherical (S.withImpulses r vec3Zero vec3Zero vec3Zero zero zero zero)
-settingsOf (Weld r) = Weld (W.withImpulses r vec3Zero vec3Zero)
+settingsOf (Revolute r) = Revolute (R.withWritten r R.nothingWritten)
+settingsOf (Spherical r) = Spherical (S.withWritten r S.nothingWritten)
+settingsOf (Weld r) = Weld (W.withWritten r W.nothingWritten)
 settingsOf Other = Other
 
 -- of a joint nothing changes but what a solve writes
@@ -224,7 +236,7 @@ pub record OnlyChanges (s : Scene) (l : List Call) (t : Scene) : Type 0 where
   -- a body that is not dynamic, or that no listed joint names, is kept whole
   pub body-kept : (n : ℕ) → ((j : ℕ) → Listed j l → Names s j n → ¬ (Dynamic s n)) → bodyAt t n ≡ bodyAt s n
   -- and so is a joint that is not listed, or only for warm starts
-  pub joint-kept : (j : ℕ) → ¬ (Solved j l) → jointAt t j ≡ jointAt s j
+  pub joint-kept : (j : ℕ) → ¬ (SolveListed j l) → jointAt t j ≡ jointAt s j
 
 -- Whatever the list, a run changes nothing else.
 abbrev pub Changes : Type 0
@@ -244,8 +256,8 @@ pub record JointLimits : Type 0 where
   pub cone-on : Bool
   pub swing : Float
 
--- 'limits are revolute's limit and spherical's twist limit, each with a lower and an upper impulse, and spherical's cone, with the swing impulse'. A limit that a
--- joint does not have is off, and its impulses are no numbers
+-- 'limits are revolute's limit and spherical's twist limit, each with a lower and an upper impulse, and spherical's cone, with the swing impulse'. A limit that
+-- a joint does not have is off, and its impulses are no numbers
 abbrev pub noLimits : JointLimits
 noLimits = record { limit-on = false; lower = nan; upper = nan; cone-on = false; swing = nan }
 
@@ -277,12 +289,12 @@ LimitsAfterSolve = (s : Scene) (l : List ℕ) → Accepted s l → (before : Lis
 
 -- And from then on: after any calls each joint of which a solve stands among them, and whose rotation is not fixed, has them so.
 abbrev pub LimitsMidway : Type 0
-LimitsMidway = (s : Scene) (before : List Call) (j : ℕ) → Solved j before → jointAt s j .base .«fixed_rotation» ≡ false
+LimitsMidway = (s : Scene) (before : List Call) (j : ℕ) → SolveListed j before → jointAt s j .base .«fixed_rotation» ≡ false
     → LimitsNonNegative (jointAt s j .«union_») (jointAt (runCalls before s) j .«union_»)
 
 -- And so at the end of every accepted list: each joint of which a solve stands in it.
 abbrev pub Limits : Type 0
-Limits = (s : Scene) (l : List ℕ) → Accepted s l → (j : ℕ) → Solved j (calls l) → jointAt s j .base .«fixed_rotation» ≡ false
+Limits = (s : Scene) (l : List ℕ) → Accepted s l → (j : ℕ) → SolveListed j (calls l) → jointAt s j .base .«fixed_rotation» ≡ false
     → LimitsNonNegative (jointAt s j .«union_») (jointAt (plainRun s l .scene) j .«union_»)
 
 -- ==== Two examples

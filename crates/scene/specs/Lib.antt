@@ -3,17 +3,3 @@ pub mod Calls
 pub mod Plain
 pub mod Chain
 pub mod Claims
-pub mod Keep
-pub mod Reorder
-pub mod Stages
-pub mod Stores
-pub mod Framed
-pub mod Order
-pub mod Accepted
-pub mod Counted
-pub mod TwoLists
-pub mod Changes
-pub mod Still
-pub mod Settled
-pub mod Examples
-pub mod Proved

@@ -12,14 +12,13 @@ use Rattle.records.specs.declared.joint.JointSim.{JointSim}
 use Rattle.records.specs.declared.joint.JointUnion.{JointUnion}
 use Rattle.records.specs.Body.{identityBodyState}
 use Rattle.constraint.specs.declared.velocity.Velocities.{Velocities}
-use Rattle.records.specs.Joint.{jointSim, isOther}
+use Rattle.records.specs.Joint.{isOther}
 use Rattle.joint.specs.Stage.{Staged, stageJoint}
 use Rattle.scene.specs.declared.Scene.{Scene}
 use Rattle.scene.specs.declared.Verdict.{Verdict}
 use Rattle.scene.specs.declared.Run.{Run}
-use Rattle.scene.specs.Reorder.{runAll}
 use Rattle.joint.specs.Index.{indexA, indexB, indexCause}
-use Rattle.scene.specs.Scene.{jointAt, stateAt, store}
+use Rattle.scene.specs.Scene.{withBodiesAndJoints, jointAt, stateAt, store}
 use Rattle.scene.specs.Calls.{Call, calls}
 
 -- ---- a run's tests
@@ -70,22 +69,15 @@ Accepted s l = verdict s l .number ≡ 0
 abbrev pub stageAt : Scene → JointSim → ℕ → Staged
 stageAt s joint stage =
     let union = joint .«union_» in
-    stageJoint union (joint .base) (s .context .h) (s .context .«inv_h») (stateAt (s .bodies) (indexA union)) (stateAt (s .bodies) (indexB union)) stage
+    stageJoint joint (s .context) (stateAt (s .bodies) (indexA union)) (stateAt (s .bodies) (indexB union)) stage
 
 -- 'stores A, then B, each only if dynamic'
 abbrev pub storeBoth : List BodyState → JointUnion → Velocities → List BodyState
 storeBoth bodies union v = store (store bodies (indexA union) (v .«v_a») (v .«w_a»)) (indexB union) (v .«v_b») (v .«w_b»)
 
--- 'puts the new joint into the slot'
+-- 'puts the new joint into the slot': what the stage of `joint`, which was in the slot, left
 abbrev pub placed : Scene → ℕ → JointSim → Staged → Scene
-placed s slot joint r =
-    record {
-      joints = set (s .joints) slot (jointSim (joint .base) (r .«union_»));
-      bodies = storeBoth (s .bodies) (joint .«union_») (r .velocities);
-      «joint_count» = s .«joint_count»;
-      «body_count» = s .«body_count»;
-      context = s .context;
-    }
+placed s slot joint r = withBodiesAndJoints s (storeBoth (s .bodies) (joint .«union_») (r .velocities)) (set (s .joints) slot (r .joint))
 
 -- one call: 'it takes the joint in the slot, reads the states at its two indices, and applies the stage'; both states are read first
 unfoldable pub step : Call → Scene → Scene
@@ -93,7 +85,13 @@ step c s =
     let joint = jointAt s (c .slot) in
     placed s (c .slot) joint (stageAt s joint (c .stage))
 
--- 'goes through the calls in order', each on what the one before it left
+module _ {C S : Type 0} where
+  -- the calls in order, each on what the one before it left
+  abbrev pub runAll : (C → S → S) → List C → S → S
+  runAll step [] s = s
+  runAll step (a ∷ l) s = runAll step l (step a s)
+
+-- 'goes through the calls in order'
 abbrev pub runCalls : List Call → Scene → Scene
 runCalls l s = runAll step l s
 

@@ -21,6 +21,11 @@ abbrev pub emptyScene : StepContext → Scene
 emptyScene context =
     record { joints = replicate 32 unusedJoint; bodies = replicate 32 identityBodyState; «joint_count» = 0; «body_count» = 0; context = context }
 
+-- the scene with these bodies and joints, and its counts and its context as they were
+abbrev pub withBodiesAndJoints : Scene → List BodyState → List JointSim → Scene
+withBodiesAndJoints s bodies joints =
+    record { joints = joints; bodies = bodies; «joint_count» = s .«joint_count»; «body_count» = s .«body_count»; context = s .context }
+
 -- ---- joints
 
 -- the joint in a slot; past the end, where no accepted call comes, one that is not in use

@@ -9,7 +9,7 @@ use records::joint::UNUSED_JOINT;
 use solver::StepContext;
 
 // At most 32 joints and 32 bodies, with a count of each, and one step context. A count is whatever
-// the caller hands over; a joint's slot is its place in `joints`.
+// the caller hands over; a joint's slot is its index in `joints`.
 pub struct Scene {
     pub joints: [JointSim; 32],
     pub bodies: [BodyState; 32],

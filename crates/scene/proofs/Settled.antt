@@ -5,25 +5,22 @@ use mathlib.Core.Bool.{Bool, true, false}
 use mathlib.Core.List.{List, [], _∷_}
 use Prim.Native.Nat.{ℕ, _≤_, _<_}
 use lib.Dec.{eqb, leb}
-use lib.Ieee.{Float}
 use lib.ListN.{length, getD, List·getD-eq-default}
 use lib.Seq.{getD-set-same, set-out}
 use borrow.Author.Tests.{eqb-true, eqb-false, leb-true, leb-false}
+use Rattle.solver.specs.declared.StepContext.{StepContext}
 use Rattle.records.specs.declared.body.BodyState.{BodyState}
-use Rattle.records.specs.declared.joint.JointBase.{JointBase}
-use Rattle.records.specs.declared.joint.JointUnion.{JointUnion}
 use Rattle.records.specs.declared.joint.JointSim.{JointSim}
-use Rattle.records.specs.Joint.{jointSim, unusedJoint}
+use Rattle.records.specs.Joint.{unusedJoint}
 use Rattle.joint.specs.Stage.{stageJoint}
 use Rattle.scene.specs.declared.Scene.{Scene}
-use Rattle.scene.specs.Reorder.{runAll}
 use Rattle.scene.specs.Scene.{jointAt}
-use Rattle.scene.specs.Calls.{Call, Solved}
-use Rattle.scene.specs.Plain.{stageAt, step}
-use Rattle.scene.specs.Changes.{call-keeps-joint}
+use Rattle.scene.specs.Calls.{Call, SolveListed}
+use Rattle.scene.specs.Plain.{stageAt, step, runAll}
+use Rattle.scene.proofs.Changes.{call-keeps-joint}
 
 call-here : (c : Call) (s : Scene) → c .slot < length (s .joints)
-    → jointAt (step c s) (c .slot) ≡ jointSim (jointAt s (c .slot) .base) (stageAt s (jointAt s (c .slot)) (c .stage) .«union_»)
+    → jointAt (step c s) (c .slot) ≡ stageAt s (jointAt s (c .slot)) (c .stage) .joint
 unfolding step
 call-here c s h = getD-set-same (s .joints) (c .slot) _ unusedJoint h
 
@@ -33,9 +30,9 @@ call-past c s h = ap (λ l. getD l (c .slot) unusedJoint) (set-out (s .joints) (
 
 -- `P` holds past the end, a solve brings it about, and every stage keeps it
 module _ (P : JointSim → Type 0) (past : P unusedJoint)
-    (brings : (u : JointUnion) (base : JointBase) (h invH : Float) (a b : BodyState) (stage : ℕ) → stage ≢ 0 → P (jointSim base (stageJoint u base h invH a b stage .«union_»)))
-    (keeps : (u : JointUnion) (base : JointBase) (h invH : Float) (a b : BodyState) (stage : ℕ) → P (jointSim base u) → P (jointSim base (stageJoint u base h invH a b stage .«union_»))) where
-  at-slot : (c : Call) (s : Scene) → P (jointSim (jointAt s (c .slot) .base) (stageAt s (jointAt s (c .slot)) (c .stage) .«union_»)) → P (jointAt (step c s) (c .slot))
+    (brings : (j : JointSim) (context : StepContext) (a b : BodyState) (stage : ℕ) → stage ≢ 0 → P (stageJoint j context a b stage .joint))
+    (keeps : (j : JointSim) (context : StepContext) (a b : BodyState) (stage : ℕ) → P j → P (stageJoint j context a b stage .joint)) where
+  at-slot : (c : Call) (s : Scene) → P (stageAt s (jointAt s (c .slot)) (c .stage) .joint) → P (jointAt (step c s) (c .slot))
   at-slot c s p = by (leb (length (s .joints)) (c .slot)) refl
     where
       by : (b : Bool) → leb (length (s .joints)) (c .slot) ≡ b → P (jointAt (step c s) (c .slot))
@@ -48,14 +45,14 @@ module _ (P : JointSim → Type 0) (past : P unusedJoint)
       by : (b : Bool) → eqb (c .slot) j ≡ b → P (jointAt (step c s) j)
       by true e =
           let q : c .slot ≡ j = eqb-true (c .slot) j e in
-          subst (λ i. P (jointAt (step c s) i)) q (at-slot c s (keeps _ _ _ _ _ _ (c .stage) (subst (λ i. P (jointAt s i)) (sym q) p)))
+          subst (λ i. P (jointAt (step c s) i)) q (at-slot c s (keeps _ _ _ _ (c .stage) (subst (λ i. P (jointAt s i)) (sym q) p)))
       by false e = rw (call-keeps-joint j c s (eqb-false (c .slot) j e)) p
 
   stays : (l : List Call) (s : Scene) (j : ℕ) → P (jointAt s j) → P (jointAt (runAll step l s) j)
   stays [] s j p = p
   stays (c ∷ l) s j p = stays l (step c s) j (after-call c s j p)
 
-  pub settled : (l : List Call) (s : Scene) (j : ℕ) → Solved j l → P (jointAt (runAll step l s) j)
+  pub settled : (l : List Call) (s : Scene) (j : ℕ) → SolveListed j l → P (jointAt (runAll step l s) j)
   settled [] s j e = absurd e
-  settled (c ∷ l) s j (inl e) = stays l (step c s) j (subst (λ i. P (jointAt (step c s) i)) (e .0) (at-slot c s (brings _ _ _ _ _ _ (c .stage) (e .1))))
+  settled (c ∷ l) s j (inl e) = stays l (step c s) j (subst (λ i. P (jointAt (step c s) i)) (e .0) (at-slot c s (brings _ _ _ _ (c .stage) (e .1))))
   settled (c ∷ l) s j (inr e) = settled l (step c s) j e

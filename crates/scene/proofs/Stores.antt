@@ -1,4 +1,4 @@
--- Stores at two indices: what a store leaves of a body, and when two stores may change places. Assumes nothing.
+-- Stores at two indices: what a store leaves of a body, and when two stores may be exchanged. Assumes nothing.
 use mathlib.Core.Path.{_≡_, refl, sym, ap, _∙_}
 use mathlib.Core.Bool.{Bool, true, false, cond, _&&_}
 use mathlib.Core.List.{List, map}
@@ -42,7 +42,10 @@ abbrev pub SameRest : List BodyState → List BodyState → Type 0
 SameRest bs cs = map restOf bs ≡ map restOf cs
 
 pub rest-at : (bs cs : List BodyState) → SameRest bs cs → (n : ℕ) → restOf (getD bs n identityBodyState) ≡ restOf (getD cs n identityBodyState)
-rest-at bs cs e n = sym (List·getD-map restOf bs n identityBodyState) ∙ ap (λ l. getD l n (restOf identityBodyState)) e ∙ List·getD-map restOf cs n identityBodyState
+rest-at bs cs e n =
+    sym (List·getD-map restOf bs n identityBodyState)
+    ∙ ap (λ l. getD l n (restOf identityBodyState)) e
+    ∙ List·getD-map restOf cs n identityBodyState
 
 rest-dynamic : (b : BodyState) → isDynamic (restOf b) ≡ isDynamic b
 unfolding isDynamic
@@ -98,8 +101,9 @@ unseen bs (pos m) (pos n) v w h = by (eqb m n) refl
     by true e = ap (λ l. getD l n identityBodyState) (store-not bs m v w (not-dynamic (eqb m n) _ e h))
     by false e = elsewhere bs m n v w (eqb-false m n e)
 
--- and changes places with the other store
-apart-stores : (bs : List BodyState) (m n : ℕ) (v w v′ w′ : Vec3) → (m ≡ n → ⊥) → store (store bs (pos m) v w) (pos n) v′ w′ ≡ store (store bs (pos n) v′ w′) (pos m) v w
+-- and may be exchanged with the other store
+apart-stores : (bs : List BodyState) (m n : ℕ) (v w v′ w′ : Vec3) → (m ≡ n → ⊥)
+    → store (store bs (pos m) v w) (pos n) v′ w′ ≡ store (store bs (pos n) v′ w′) (pos m) v w
 unfolding store
 apart-stores bs m n v w v′ w′ ne =
     rw (
@@ -133,7 +137,8 @@ both-unseen bs u r y h =
     let same = store-rest bs (indexA u) (r .«v_a») (r .«w_a») in
     unseen one (indexB u) y (r .«v_b») (r .«w_b») (clash-at one bs same (indexB u) y ∙ h .1) ∙ unseen bs (indexA u) y (r .«v_a») (r .«w_a») (h .0)
 
-past : (bs : List BodyState) (u : JointUnion) (r : Velocities) (y : ℤ) (v w : Vec3) → Clear bs u y → store (storeBoth bs u r) y v w ≡ storeBoth (store bs y v w) u r
+past : (bs : List BodyState) (u : JointUnion) (r : Velocities) (y : ℤ) (v w : Vec3) → Clear bs u y
+    → store (storeBoth bs u r) y v w ≡ storeBoth (store bs y v w) u r
 past bs u r y v w h =
     let one = store bs (indexA u) (r .«v_a») (r .«w_a») in
     let same = store-rest bs (indexA u) (r .«v_a») (r .«w_a») in

@@ -16,11 +16,10 @@ use Rattle.scene.specs.declared.Verdict.{Verdict}
 use Rattle.scene.specs.declared.Run.{Run}
 use Rattle.joint.specs.Index.{indexA, indexB, badIndex}
 use Rattle.records.specs.Joint.{caseOf, isOther}
-use Rattle.scene.specs.Reorder.{Every}
 use Rattle.scene.specs.Scene.{jointAt}
-use Rattle.scene.specs.Calls.{Call, calls}
+use Rattle.scene.specs.Calls.{Call, calls, Every}
 use Rattle.scene.specs.Plain.{cause, verdictOf, firstCause, earlyCause, verdict, Accepted, done, refused, runCalls, plainRun}
-use Rattle.scene.specs.Framed.{Framed, cause-kept}
+use Rattle.scene.proofs.Framed.{Framed, cause-kept}
 use Rattle.scene.specs.Claims.{Cause6, Cause7, OutOf, Test, test, callTests, tests, NoCause, FirstCause}
 
 -- ---- each test decides its cause
@@ -63,10 +62,13 @@ says-index count (negsuc zero) = λ h. h refl
 says-index count (negsuc (suc n)) = λ e. omega arith
 
 says-6 : (s : Scene) → Says (ltb 32 (s .«body_count») || ltb 32 (s .«joint_count»)) (Cause6 s)
-says-6 s = says-or (ltb 32 (s .«body_count»)) (ltb 32 (s .«joint_count»)) (32 < s .«body_count») (32 < s .«joint_count») (says-lt 32 (s .«body_count»)) (says-lt 32 (s .«joint_count»))
+says-6 s =
+    says-or (ltb 32 (s .«body_count»)) (ltb 32 (s .«joint_count»)) (32 < s .«body_count») (32 < s .«joint_count»)
+    (says-lt 32 (s .«body_count»)) (says-lt 32 (s .«joint_count»))
 
 says-7 : (l : List ℕ) → Says (eqb (length l % 2) 1 || ltb 8192 (length l)) (Cause7 l)
-says-7 l = says-or (eqb (length l % 2) 1) (ltb 8192 (length l)) (length l % 2 ≡ 1) (8192 < length l) (says-eq (length l % 2) 1) (says-lt 8192 (length l))
+says-7 l =
+    says-or (eqb (length l % 2) 1) (ltb 8192 (length l)) (length l % 2 ≡ 1) (8192 < length l) (says-eq (length l % 2) 1) (says-lt 8192 (length l))
 
 -- ---- the answer of a list of tests, made one after the other
 
@@ -187,7 +189,10 @@ answers-hold Q ts v a zeros h = by (eqb (v .number) 0) refl
 
 -- ---- a run is worked, or refused
 
-pub by-verdict : (s : Scene) (l : List ℕ) (P : Run → Type 0) → (Accepted s l → P (done s (runCalls (calls l) s))) → (verdict s l .number ≢ 0 → P (refused (verdict s l) s)) → P (plainRun s l)
+pub by-verdict : (s : Scene) (l : List ℕ) (P : Run → Type 0)
+    → (Accepted s l → P (done s (runCalls (calls l) s)))
+    → (verdict s l .number ≢ 0 → P (refused (verdict s l) s))
+    → P (plainRun s l)
 unfolding plainRun
 by-verdict s l P worked stopped = by (eqb (verdict s l .number) 0) refl
   where
@@ -205,7 +210,9 @@ run-refused s l ne = by-verdict s l (λ r. r ≡ refused (verdict s l) s) (λ e.
 -- its number and place are its verdict's
 pub run-verdict : (s : Scene) (l : List ℕ) → (plainRun s l .number ≡ verdict s l .number) × (plainRun s l .place ≡ verdict s l .place)
 run-verdict s l =
-    by-verdict s l (λ r. (r .number ≡ verdict s l .number) × (r .place ≡ verdict s l .place)) (λ e. (sym e, sym (verdict-answers s l .none e .1))) (λ ne. (refl, refl))
+    by-verdict s l (λ r. (r .number ≡ verdict s l .number) × (r .place ≡ verdict s l .place))
+    (λ e. (sym e, sym (verdict-answers s l .none e .1)))
+    (λ ne. (refl, refl))
 
 -- ---- an accepted list's calls
 
@@ -215,12 +222,16 @@ accepted-calls s l e = verdict-answers s l .none e .0 .1 .1
 head-of : (s : Scene) (p : ℕ) (c : Call) (l : List Call) → NoCause (callTests s p (c ∷ l)) → NoCause (callTests s p (c ∷ []))
 head-of s p c l h = (h .0, (h .1 .0, (h .1 .1 .0, (h .1 .1 .1 .0, (h .1 .1 .1 .1 .0, tt)))))
 
-no-cause-in : (s : Scene) (p q : ℕ) (before : List Call) (c : Call) (after : List Call) → NoCause (callTests s p (before ++ (c ∷ after))) → NoCause (callTests s q (c ∷ []))
+no-cause-in : (s : Scene) (p q : ℕ) (before : List Call) (c : Call) (after : List Call)
+    → NoCause (callTests s p (before ++ (c ∷ after)))
+    → NoCause (callTests s q (c ∷ []))
 no-cause-in s p q [] c after h = head-of s p c after h
 no-cause-in s p q (d ∷ before) c after h = no-cause-in s (p + 1) q before c after (h .1 .1 .1 .1 .1)
 
 -- the call at a cut of a list without a cause has none
-pub no-cause-at : (s : Scene) (p q : ℕ) (l before : List Call) (c : Call) (after : List Call) → l ≡ before ++ (c ∷ after) → NoCause (callTests s p l) → NoCause (callTests s q (c ∷ []))
+pub no-cause-at : (s : Scene) (p q : ℕ) (l before : List Call) (c : Call) (after : List Call) → l ≡ before ++ (c ∷ after)
+    → NoCause (callTests s p l)
+    → NoCause (callTests s q (c ∷ []))
 no-cause-at s p q l before c after e h = no-cause-in s p q before c after (rw e at h)
 
 -- nor has it one in any scene that is as it was fed

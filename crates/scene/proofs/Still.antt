@@ -44,7 +44,8 @@ of-velocities a b h =
 
 -- ---- of the first bodies
 
-to-each : (n : ℕ) (bs cs : List BodyState) → sameBelow n bs cs ≡ true → (k : ℕ) → k < n → SameVelocities (getD bs k identityBodyState) (getD cs k identityBodyState)
+to-each : (n : ℕ) (bs cs : List BodyState) → sameBelow n bs cs ≡ true → (k : ℕ) → k < n
+    → SameVelocities (getD bs k identityBodyState) (getD cs k identityBodyState)
 to-each zero bs cs e k h = absurd (omega arith)
 to-each (suc n) bs cs e k h = by (to-each n bs cs (parts .0) k) (eqb k n) refl
   where
@@ -56,13 +57,15 @@ to-each (suc n) bs cs e k h = by (to-each n bs cs (parts .0) k) (eqb k n) refl
     by below true f = rw (eqb-true k n f) (to-velocities (getD bs n identityBodyState) (getD cs n identityBodyState) (parts .1))
     by below false f = below (omega (arith, eqb-false k n f))
 
-of-each : (n : ℕ) (bs cs : List BodyState) → ((k : ℕ) → k < n → SameVelocities (getD bs k identityBodyState) (getD cs k identityBodyState)) → sameBelow n bs cs ≡ true
+of-each : (n : ℕ) (bs cs : List BodyState)
+    → ((k : ℕ) → k < n → SameVelocities (getD bs k identityBodyState) (getD cs k identityBodyState)) → sameBelow n bs cs ≡ true
 of-each zero bs cs h = refl
 of-each (suc n) bs cs h =
     and-eq-true-iff (sameBelow n bs cs) (sameVelocities (getD bs n identityBodyState) (getD cs n identityBodyState)) .1
     (of-each n bs cs (λ k g. h k (omega arith)), of-velocities (getD bs n identityBodyState) (getD cs n identityBodyState) (h n (omega arith)))
 
-pub same-below : (n : ℕ) (bs cs : List BodyState) → (sameBelow n bs cs ≡ true) ↔ ((k : ℕ) → k < n → SameVelocities (getD bs k identityBodyState) (getD cs k identityBodyState))
+pub same-below : (n : ℕ) (bs cs : List BodyState)
+    → (sameBelow n bs cs ≡ true) ↔ ((k : ℕ) → k < n → SameVelocities (getD bs k identityBodyState) (getD cs k identityBodyState))
 same-below n bs cs = (to-each n bs cs, of-each n bs cs)
 
 -- ---- of a state and itself

@@ -6,12 +6,11 @@ use Prim.Native.Nat.{ℕ, _+_, _%_, _≤_, _<_}
 use native.Mathlib.Omega.{arith}
 use lib.ListN.{length, length-append}
 use Rattle.scene.specs.declared.Scene.{Scene}
-use Rattle.scene.specs.Reorder.{Every}
-use Rattle.scene.specs.Calls.{Call, call, calls}
+use Rattle.scene.specs.Calls.{Call, call, calls, Every}
 use Rattle.scene.specs.Plain.{cause, verdict, Accepted, runCalls, plainRun}
 use Rattle.scene.specs.Claims.{Cause6, Cause7, tests, OneAfterOther}
-use Rattle.scene.specs.Framed.{Framed, framed, framed-start, cause-kept}
-use Rattle.scene.specs.Accepted.{verdict-answers, answers-none, by-verdict, run-accepted, no-causes, causes-none}
+use Rattle.scene.proofs.Framed.{Framed, framed, framed-start, cause-kept}
+use Rattle.scene.proofs.Accepted.{verdict-answers, answers-none, by-verdict, run-accepted, no-causes, causes-none}
 
 -- ---- calls
 

@@ -1,8 +1,9 @@
--- The two examples of Claims.antt, computed. Assumes nothing.
+-- The two examples of specs/Claims.antt, computed. Assumes nothing.
 use mathlib.Core.Path.{_≡_, refl, sym, ap, _∙_, subst}
 use mathlib.Core.Logic.{_⊎_, inl, inr, _≢_}
 use mathlib.Core.Bool.{Bool, true, false, true≢false, false≢true}
 use mathlib.Core.List.{[]}
+use mathlib.Core.Option.{Option·elim}
 use Prim.Native.Nat.{ℕ, zero, suc, _+_}
 use native.Mathlib.Omega.{arith}
 use lib.Dec.{eqb}
@@ -26,13 +27,12 @@ use Rattle.constraint.specs.Angular as Angular
 use Rattle.constraint.specs.Point as Point
 use Rattle.weld.specs.Weld as Weld
 use Rattle.joint.specs.Stage as Stage
-use Rattle.scene.specs.Keep.{keepIf}
-use Rattle.scene.specs.Order.{same-answer}
-use Rattle.scene.specs.Changes.{pos-of}
+use Rattle.scene.proofs.Order.{same-answer}
+use Rattle.scene.proofs.Changes.{pos-of}
 use Rattle.records.specs.Joint.{unusedJoint}
 use Rattle.joint.specs.Index.{indexA, indexB}
 use Rattle.scene.specs.Scene.{bodyAt, Dynamic, Names, ShareDynamic, store}
-use Rattle.scene.specs.Calls.{Call, calls, onlyOf}
+use Rattle.scene.specs.Calls.{Call, calls, keepIf, onlyOf}
 use Rattle.scene.specs.Plain.{cause, earlyCause, verdict, Accepted, step, sameVelocities, isStill, plainRun}
 use Rattle.scene.specs.Chain.{four, chain, firstThenSecond, secondThenFirst}
 use Rattle.scene.specs.Claims.{endX, Differ, Agree}
@@ -47,18 +47,27 @@ accepted-second : (flags : ℕ) → Accepted (chain flags) secondThenFirst
 unfolding chain verdict earlyCause cause
 accepted-second flags = refl
 
-turned : (a b : Bool) (c d : Call) → (a ≡ true → b ≡ true → ⊥) → keepIf a c (keepIf b d []) ≡ keepIf b d (keepIf a c [])
-turned true true c d h = absurd (h refl refl)
-turned true false c d h = refl
-turned false true c d h = refl
-turned false false c d h = refl
+either-order : (a b : Bool) (c d : Call) → (a ≡ true → b ≡ true → ⊥) → keepIf a c (keepIf b d []) ≡ keepIf b d (keepIf a c [])
+either-order true true c d h = absurd (h refl refl)
+either-order true false c d h = refl
+either-order false true c d h = refl
+either-order false false c d h = refl
 
 each-alike : (j : ℕ) → onlyOf j (calls firstThenSecond) ≡ onlyOf j (calls secondThenFirst)
-each-alike j = turned (eqb 0 j) (eqb 1 j) _ _ (λ p q. omega (arith, eqb-true 0 j p, eqb-true 1 j q))
+each-alike j = either-order (eqb 0 j) (eqb 1 j) _ _ (λ p q. omega (arith, eqb-true 0 j p, eqb-true 1 j q))
 
 -- where the first body ends with a dynamic one in the middle, in both orders; and where the first and the last end with one that is not dynamic
 ends : (endX 0x1000 firstThenSecond 0 ≡ two) × (endX 0x1000 secondThenFirst 0 ≡ four) × (endX 0 firstThenSecond 0 ≡ two) × (endX 0 firstThenSecond 2 ≡ four)
-unfolding chain plainRun verdict earlyCause cause step store isStill sameVelocities Body.isDynamic Body.storeVelocities Stage.stageJoint Stage.warmStartJoint Stage.solveJoint Weld.solveWeld Weld.solveAngular Weld.weldAngularRow Weld.solvePoint Weld.pointRow Weld.isSoft Velocity.velocitiesOf Velocity.invMassesOf Velocity.applyPoint Soft.softImpulse3 Soft.softBias3 Rotation.flippedRelativeRotation Rotation.relativeRotation Rotation.samePolarity Angular.isWorked Point.pointBias Point.pointMass Point.pointCdotGrouped Scalar.absFloat Vector.add Vector.sub Vector.neg Vector.dot Vector.mulAdd Vector.mulSub Vector.mulSv Vector.cross Quat.rotateVector Quat.mulQuat Quat.invMulQuat Quat.dotQuat Quat.negateQuat Matrix.det Matrix.mulMv Matrix.negateMat3 Matrix.addMm Matrix.mulMm Matrix.solve3 Matrix.skew Ieee.ofBits Ieee.neg Ieee.add Ieee.sub Ieee.mul Ieee.div Ieee.lt Ieee.eq
+unfolding chain plainRun verdict earlyCause cause step store isStill sameVelocities Option·elim Body.isDynamic Body.storeVelocities
+    Stage.stageJoint Stage.warmStartAs Stage.solveAs
+    Weld.solveWeldJoint Weld.solveWeld Weld.solveAngular Weld.weldAngularRow Weld.solvePoint Weld.pointRow Weld.isSoft
+    Velocity.velocitiesOf Velocity.invMassesOf Velocity.applyPoint Soft.softImpulse3 Soft.softBias3
+    Rotation.flippedRelativeRotation Rotation.relativeRotation Rotation.samePolarity Angular.isWorked
+    Point.pointBias Point.pointMass Point.pointCdotGrouped Scalar.absFloat
+    Vector.add Vector.sub Vector.neg Vector.dot Vector.mulAdd Vector.mulSub Vector.mulSv Vector.cross
+    Quat.rotateVector Quat.mulQuat Quat.invMulQuat Quat.dotQuat Quat.negateQuat
+    Matrix.det Matrix.mulMv Matrix.negateMat3 Matrix.addMm Matrix.mulMm Matrix.solve3 Matrix.skew
+    Ieee.ofBits Ieee.neg Ieee.add Ieee.sub Ieee.mul Ieee.div Ieee.lt Ieee.eq
 ends = (refl, refl, refl, refl)
 
 -- ---- a dynamic body in the middle

@@ -11,20 +11,15 @@ use Rattle.records.specs.declared.joint.WeldJoint.{WeldJoint}
 use Rattle.records.specs.declared.joint.JointUnion.{JointUnion}
 use Rattle.records.specs.declared.joint.JointUnion.the-variants.{Revolute, Spherical, Weld, Other}
 use Rattle.records.specs.declared.joint.JointSim.{JointSim}
-use Rattle.records.specs.Joint.{jointSim, caseOf, unusedJoint}
-use Rattle.scene.specs.declared.Scene.{Scene}
-use Rattle.scene.specs.Reorder.{runAll}
+use Rattle.records.specs.Joint.{caseOf, unusedJoint}
 use Rattle.joint.specs.Index.{indexA, indexB}
-use Rattle.scene.specs.Scene.{jointAt, stateAt}
+use Rattle.scene.specs.declared.Scene.{Scene}
+use Rattle.scene.specs.Scene.{jointAt}
 use Rattle.scene.specs.Calls.{Call}
-use Rattle.scene.specs.Plain.{causeIn, cause, stageAt, step}
+use Rattle.scene.specs.Plain.{causeIn, cause, stageAt, step, runAll}
 use Rattle.scene.specs.Claims.{settingsOf, OnlyImpulses}
-use Rattle.scene.specs.Stages.{stage-keeps}
-use Rattle.scene.specs.Stores.{SameRest, both-rest}
-
--- what no stage changes of a joint
-abbrev pub fixedOf : JointSim → JointSim
-fixedOf j = jointSim (j .base) (settingsOf (j .«union_»))
+use Rattle.scene.proofs.Stages.{fixedOf, stage-keeps}
+use Rattle.scene.proofs.Stores.{SameRest, both-rest}
 
 -- what reads nothing of a joint that a solve writes is the same of two joints with the same settings
 pub unread : {A : Type 0} (f : JointUnion → A)
@@ -64,18 +59,13 @@ pub record Framed (s t : Scene) : Type 0 where
 pub framed-start : (s : Scene) → Framed s s
 framed-start s = record { bodies = refl; joints = refl; body-count = refl; joint-count = refl; context = refl }
 
-staged-fixed : (s : Scene) (j : JointSim) (stage : ℕ) → fixedOf (jointSim (j .base) (stageAt s j stage .«union_»)) ≡ fixedOf j
-staged-fixed s j stage =
-    let u = j .«union_» in
-    ap (jointSim (j .base)) (stage-keeps (j .base) (s .context .h) (s .context .«inv_h») (stateAt (s .bodies) (indexA u)) (stateAt (s .bodies) (indexB u)) stage u)
-
 pub framed-step : (s : Scene) (c : Call) (t : Scene) → Framed s t → Framed s (step c t)
 unfolding step
 framed-step s c t f =
     let j = jointAt t (c .slot) in
     record {
       bodies = both-rest (t .bodies) (j .«union_») (stageAt t j (c .stage) .velocities) ∙ f .bodies;
-      joints = map-set-same fixedOf (t .joints) (c .slot) _ unusedJoint (staged-fixed t j (c .stage)) ∙ f .joints;
+      joints = map-set-same fixedOf (t .joints) (c .slot) _ unusedJoint (stage-keeps j _ _ _ (c .stage)) ∙ f .joints;
       body-count = f .body-count;
       joint-count = f .joint-count;
       context = f .context;
@@ -91,13 +81,16 @@ framed s l = framed-from s l s (framed-start s)
 pub fixed-at : (s t : Scene) → Framed s t → (j : ℕ) → OnlyImpulses (jointAt s j) (jointAt t j)
 fixed-at s t f j =
     only-impulses (jointAt s j) (jointAt t j)
-    (sym (List·getD-map fixedOf (t .joints) j unusedJoint) ∙ ap (λ l. getD l j (fixedOf unusedJoint)) (f .joints) ∙ List·getD-map fixedOf (s .joints) j unusedJoint)
+    (sym (List·getD-map fixedOf (t .joints) j unusedJoint)
+    ∙ ap (λ l. getD l j (fixedOf unusedJoint)) (f .joints)
+    ∙ List·getD-map fixedOf (s .joints) j unusedJoint)
 
 -- ---- a call's cause is the same in every scene that a run passes through
 
 pub cause-kept : (s t : Scene) → Framed s t → (c : Call) → cause t c ≡ cause s c
 unfolding cause
 cause-kept s t f c =
+    let u = jointAt s (c .slot) .«union_» in
     let v = jointAt t (c .slot) .«union_» in
     ap₂ (λ m n. causeIn m n v c) (f .body-count) (f .joint-count)
-    ∙ unread (λ x. causeIn (s .«body_count») (s .«joint_count») x c) (λ r. refl) (λ r. refl) (λ r. refl) v (jointAt s (c .slot) .«union_») (fixed-at s t f (c .slot) .settings)
+    ∙ unread (λ x. causeIn (s .«body_count») (s .«joint_count») x c) (λ r. refl) (λ r. refl) (λ r. refl) v u (fixed-at s t f (c .slot) .settings)

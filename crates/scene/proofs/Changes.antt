@@ -14,17 +14,16 @@ use Rattle.records.specs.declared.joint.JointUnion.{JointUnion}
 use Rattle.records.specs.Body.{isDynamic, identityBodyState}
 use Rattle.constraint.specs.declared.velocity.Velocities.{Velocities}
 use Rattle.scene.specs.declared.Scene.{Scene}
-use Rattle.scene.specs.Reorder.{runAll}
-use Rattle.records.specs.Joint.{unusedJoint, jointSim}
+use Rattle.records.specs.Joint.{unusedJoint}
 use Rattle.joint.specs.Index.{indexA, indexB}
 use Rattle.scene.specs.Scene.{jointAt, bodyAt, Dynamic, NamesBody, Names}
-use Rattle.scene.specs.Calls.{Call, Listed, Solved}
-use Rattle.scene.specs.Stages.{warm-keeps}
-use Rattle.scene.specs.Plain.{stageAt, storeBoth, step}
+use Rattle.scene.specs.Calls.{Call, Listed, SolveListed}
+use Rattle.scene.proofs.Stages.{fixedOf, warm-keeps}
+use Rattle.scene.specs.Plain.{stageAt, storeBoth, step, runAll}
 use Rattle.scene.specs.Claims.{OnlyVelocities, OnlyChanges}
-use Rattle.scene.specs.Stores.{restOf, SameRest, rest-at, dynamic-at, clash, both-unseen}
-use Rattle.scene.specs.Framed.{Framed, framed, framed-start, framed-step, fixedOf, fixed-at}
-use Rattle.scene.specs.Order.{clash-yes}
+use Rattle.scene.proofs.Stores.{restOf, SameRest, rest-at, dynamic-at, clash, both-unseen}
+use Rattle.scene.proofs.Framed.{Framed, framed, framed-start, framed-step, fixed-at}
+use Rattle.scene.proofs.Order.{clash-yes}
 
 -- ---- a body that is not dynamic, or that no listed joint names
 
@@ -52,12 +51,17 @@ call-keeps-body s n c t f h =
     let j = jointAt t (c .slot) in
     let same = fixed-at s t f (c .slot) in
     not-stored (t .bodies) (j .«union_») n
-    (λ names d. h (⊎-elim (λ e. inl (sym (same .index-a) ∙ e)) (λ e. inr (sym (same .index-b) ∙ e)) names) (sym (dynamic-at (t .bodies) (s .bodies) (f .bodies) n) ∙ d))
+    (λ names d. h
+    (⊎-elim (λ e. inl (sym (same .index-a) ∙ e)) (λ e. inr (sym (same .index-b) ∙ e)) names)
+    (sym (dynamic-at (t .bodies) (s .bodies) (f .bodies) n) ∙ d))
     (stageAt t j (c .stage) .velocities)
 
-bodies-kept : (s : Scene) (n : ℕ) (l : List Call) (t : Scene) → Framed s t → ((j : ℕ) → Listed j l → Names s j n → ¬ (Dynamic s n)) → bodyAt (runAll step l t) n ≡ bodyAt t n
+bodies-kept : (s : Scene) (n : ℕ) (l : List Call) (t : Scene) → Framed s t
+    → ((j : ℕ) → Listed j l → Names s j n → ¬ (Dynamic s n))
+    → bodyAt (runAll step l t) n ≡ bodyAt t n
 bodies-kept s n [] t f h = refl
-bodies-kept s n (c ∷ l) t f h = bodies-kept s n l (step c t) (framed-step s c t f) (λ j p. h j (inr p)) ∙ call-keeps-body s n c t f (h (c .slot) (inl refl))
+bodies-kept s n (c ∷ l) t f h =
+    bodies-kept s n l (step c t) (framed-step s c t f) (λ j p. h j (inr p)) ∙ call-keeps-body s n c t f (h (c .slot) (inl refl))
 
 -- ---- a joint that no call solves
 
@@ -69,7 +73,7 @@ warm-start-keeps : (c : Call) (s : Scene) → c .stage ≡ 0 → step c s .joint
 unfolding step
 warm-start-keeps c s e =
     let j = jointAt s (c .slot) in
-    ap (λ u. set (s .joints) (c .slot) (jointSim (j .base) u)) (warm-keeps (j .base) _ _ _ _ (c .stage) (j .«union_») e) ∙ set-getD (s .joints) (c .slot) unusedJoint
+    ap (set (s .joints) (c .slot)) (warm-keeps j _ _ _ (c .stage) e) ∙ set-getD (s .joints) (c .slot) unusedJoint
 
 unsolved-call : (j : ℕ) (c : Call) (s : Scene) → ¬ ((c .slot ≡ j) × (c .stage ≢ 0)) → jointAt (step c s) j ≡ jointAt s j
 unsolved-call j c s h = by (eqb (c .stage) 0) refl
@@ -78,7 +82,7 @@ unsolved-call j c s h = by (eqb (c .stage) 0) refl
     by true e = ap (λ joints. getD joints j unusedJoint) (warm-start-keeps c s (eqb-true (c .stage) 0 e))
     by false e = call-keeps-joint j c s (λ p. h (p, eqb-false (c .stage) 0 e))
 
-joint-stays : (s : Scene) (l : List Call) (j : ℕ) → ¬ (Solved j l) → jointAt (runAll step l s) j ≡ jointAt s j
+joint-stays : (s : Scene) (l : List Call) (j : ℕ) → ¬ (SolveListed j l) → jointAt (runAll step l s) j ≡ jointAt s j
 joint-stays s [] j h = refl
 joint-stays s (c ∷ l) j h = joint-stays (step c s) l j (λ p. h (inr p)) ∙ unsolved-call j c s (λ p. h (inl p))
 

@@ -1,4 +1,4 @@
--- The claims of Claims.antt, proved, each under its statement's name in small letters. Assumes nothing.
+-- The claims of specs/Claims.antt, proved, each under its statement's name in small letters. Assumes nothing.
 use mathlib.Core.Path.{_≡_, refl, sym, ap, _∙_, subst}
 use mathlib.Core.Logic.{inl, inr, ⊎-elim, _≢_, _↔_}
 use mathlib.Core.Bool.{Bool, true, false}
@@ -6,35 +6,33 @@ use mathlib.Core.List.{List, [], _∷_, _++_}
 use Prim.Native.Nat.{ℕ, _+_, _≤_, _<_}
 use native.Mathlib.Omega.{arith}
 use lib.Dec.{eqb}
-use lib.Ieee.{Float}
 use lib.ListN.{length}
 use borrow.Author.Tests.{eqb-true, eqb-false}
+use Rattle.solver.specs.declared.StepContext.{StepContext}
 use Rattle.records.specs.declared.body.BodyState.{BodyState}
-use Rattle.records.specs.declared.joint.JointBase.{JointBase}
 use Rattle.records.specs.declared.joint.JointUnion.{JointUnion}
 use Rattle.records.specs.declared.joint.JointUnion.the-variants.{Other}
 use Rattle.records.specs.declared.joint.JointSim.{JointSim}
-use Rattle.records.specs.Joint.{jointSim}
 use Rattle.joint.specs.Stage.{stageJoint}
 use Rattle.scene.specs.declared.Scene.{Scene}
 use Rattle.scene.specs.Scene.{jointAt, bodyAt}
-use Rattle.scene.specs.Calls.{Call, calls, Solved}
+use Rattle.scene.specs.Calls.{Call, calls, SolveListed}
 use Rattle.scene.specs.Plain.{verdict, Accepted, runCalls, isStill, plainRun}
 use Rattle.scene.specs.Claims.{Cause6, Cause7, callTests, tests, Numbers, Acceptance, AcceptedIsZero, InRange, Range, Refusal, Midway}
 use Rattle.scene.specs.Claims.{Chained, ChainedLists, Stillness, SameVelocities, NoBodies, NoNaN, EmptyList, Order, OrderCounted}
 use Rattle.scene.specs.Claims.{Changes, ChangesMidway, OnlyChanges, settingsOf, limitsOf, LimitsNonNegative}
 use Rattle.scene.specs.Claims.{LimitsAfterSolve, LimitsMidway, Limits, Differ, Agree}
-use Rattle.scene.specs.Accepted.{verdict-answers, answers-numbers, answers-none, OfTests, answers-hold}
-use Rattle.scene.specs.Accepted.{by-verdict, run-accepted, run-verdict, accepted-calls, no-cause-kept, no-cause-at}
-use Rattle.scene.specs.TwoLists.{runs-chained, one-after-other}
-use Rattle.scene.specs.Stages.{no-limits, stage-keeps, warm-keeps, solve-limits}
-use Rattle.scene.specs.Settled.{settled}
-use Rattle.scene.specs.Framed.{unread, framed, fixed-at}
-use Rattle.scene.specs.Still.{same-below, same-self}
-use Rattle.scene.specs.Examples as Examples
-use Rattle.scene.specs.Order.{same-answer}
-use Rattle.scene.specs.Counted.{same-answer-counted}
-use Rattle.scene.specs.Changes.{only-changes, nothing-changes}
+use Rattle.scene.proofs.Accepted.{verdict-answers, answers-numbers, answers-none, OfTests, answers-hold}
+use Rattle.scene.proofs.Accepted.{by-verdict, run-accepted, run-verdict, accepted-calls, no-cause-kept, no-cause-at}
+use Rattle.scene.proofs.TwoLists.{runs-chained, one-after-other}
+use Rattle.scene.proofs.Stages.{no-limits, stage-keeps, warm-keeps, solve-limits}
+use Rattle.scene.proofs.Settled.{settled}
+use Rattle.scene.proofs.Framed.{unread, framed, fixed-at}
+use Rattle.scene.proofs.Still.{same-below, same-self}
+use Rattle.scene.proofs.Examples as Examples
+use Rattle.scene.proofs.Order.{same-answer}
+use Rattle.scene.proofs.Counted.{same-answer-counted}
+use Rattle.scene.proofs.Changes.{only-changes, nothing-changes}
 
 -- ---- numbers and places
 
@@ -97,7 +95,8 @@ refusal s l = by-verdict s l (λ r. r .number ≢ 0 → (r .still ≡ false) × 
 
 pub midway : Midway
 midway s l e before c after same =
-    no-cause-kept s (runCalls before s) (framed s before) (length before) c (no-cause-at s 0 (length before) (calls l) before c after same (accepted-calls s l e))
+    no-cause-kept s (runCalls before s) (framed s before) (length before) c
+    (no-cause-at s 0 (length before) (calls l) before c after same (accepted-calls s l e))
 
 -- ---- two lists
 
@@ -135,7 +134,8 @@ empty-list s = record { accepted = number; unaltered = empty-same s; still = sti
     number : (plainRun s [] .number ≡ 0) ↔ ¬ (Cause6 s)
     number = (λ e. acceptance s [] .0 .0 e .0, λ h. acceptance s [] .0 .1 (h, (empty-7, tt)))
 
-    still : ¬ (Cause6 s) → (plainRun s [] .still ≡ true) ↔ ((n : ℕ) → n < s .«body_count» → NoNaN (bodyAt s n .«linear_velocity») × NoNaN (bodyAt s n .«angular_velocity»))
+    still : ¬ (Cause6 s)
+        → (plainRun s [] .still ≡ true) ↔ ((n : ℕ) → n < s .«body_count» → NoNaN (bodyAt s n .«linear_velocity») × NoNaN (bodyAt s n .«angular_velocity»))
     still h =
         let given = stillness s [] (sym (run-verdict s [] .0) ∙ number .1 h) in
         let same : (n : ℕ) → bodyAt (plainRun s [] .scene) n ≡ bodyAt s n = λ n. ap (λ t. bodyAt t n) (empty-same s) in (
@@ -172,17 +172,22 @@ limits-from u v w e p =
 abbrev Settled : JointSim → Type 0
 Settled j = j .base .«fixed_rotation» ≡ false → LimitsNonNegative (j .«union_») (j .«union_»)
 
-settles : (u : JointUnion) (base : JointBase) (h invH : Float) (a b : BodyState) (stage : ℕ) → stage ≢ 0 → Settled (jointSim base (stageJoint u base h invH a b stage .«union_»))
-settles u base h invH a b stage ne free =
-    let next = stageJoint u base h invH a b stage .«union_» in
-    limits-from u next next (sym (stage-keeps base h invH a b stage u)) (solve-limits base h invH a b stage u ne free)
+module _ (j : JointSim) (context : StepContext) (a b : BodyState) (stage : ℕ) where
+  abbrev next : JointSim
+  next = stageJoint j context a b stage .joint
 
-settled-stays : (u : JointUnion) (base : JointBase) (h invH : Float) (a b : BodyState) (stage : ℕ) → Settled (jointSim base u) → Settled (jointSim base (stageJoint u base h invH a b stage .«union_»))
-settled-stays u base h invH a b stage p = by (eqb stage 0) refl
-  where
-    by : (x : Bool) → eqb stage 0 ≡ x → Settled (jointSim base (stageJoint u base h invH a b stage .«union_»))
-    by true e = rw (warm-keeps base h invH a b stage u (eqb-true stage 0 e)) p
-    by false e = settles u base h invH a b stage (eqb-false stage 0 e)
+  settles : stage ≢ 0 → Settled next
+  settles ne free =
+      let same = stage-keeps j context a b stage in
+      limits-from (j .«union_») (next .«union_») (next .«union_») (sym (ap (λ x. x .«union_») same))
+      (solve-limits j context a b stage ne (sym (ap (λ x. x .base .«fixed_rotation») same) ∙ free))
+
+  settled-stays : Settled j → Settled next
+  settled-stays p = by (eqb stage 0) refl
+    where
+      by : (x : Bool) → eqb stage 0 ≡ x → Settled next
+      by true e = rw (warm-keeps j context a b stage (eqb-true stage 0 e)) p
+      by false e = settles (eqb-false stage 0 e)
 
 pub limits-midway : LimitsMidway
 limits-midway s before j solved free =
@@ -191,7 +196,7 @@ limits-midway s before j solved free =
     limits-from (jointAt t j .«union_») (jointAt t j .«union_») (jointAt s j .«union_») (same .settings)
     (settled Settled (λ f. no-limits Other Other refl refl) settles settled-stays before s j solved (ap (λ x. x .«fixed_rotation») (same .base) ∙ free))
 
-solved-last : (before : List Call) (c : Call) → c .stage ≢ 0 → Solved (c .slot) (before ++ (c ∷ []))
+solved-last : (before : List Call) (c : Call) → c .stage ≢ 0 → SolveListed (c .slot) (before ++ (c ∷ []))
 solved-last [] c ne = inl (refl, ne)
 solved-last (d ∷ l) c ne = inr (solved-last l c ne)
 

@@ -9,14 +9,12 @@ use native.Mathlib.Omega.{arith}
 use lib.Dec.{eqb, leb}
 use borrow.Author.Tests.{leb-false, leb-true, ne-eqb}
 use Rattle.scene.specs.declared.Scene.{Scene}
-use Rattle.scene.specs.Keep.{keepIf}
-use Rattle.scene.specs.Reorder.{Every}
 use Rattle.scene.specs.Scene.{ShareDynamic}
-use Rattle.scene.specs.Calls.{Call, calls, onlyOf, onlyOfTwo}
+use Rattle.scene.specs.Calls.{Call, calls, Every, keepIf, onlyOf, onlyOfTwo}
 use Rattle.scene.specs.Plain.{Accepted, plainRun}
 use Rattle.scene.specs.Claims.{callTests, NoCause}
-use Rattle.scene.specs.Accepted.{accepted-calls}
-use Rattle.scene.specs.Order.{same-answer}
+use Rattle.scene.proofs.Accepted.{accepted-calls}
+use Rattle.scene.proofs.Order.{same-answer}
 
 slots-of : (s : Scene) (place : ℕ) (l : List Call) → NoCause (callTests s place l) → Every (λ c. c .slot < s .«joint_count») l
 slots-of s place [] h = tt
@@ -36,7 +34,8 @@ left-none n j k (c ∷ l) h e = rw (ne-eqb (c .slot) j (λ p. omega (arith, e .0
 
 right-none : (n j k : ℕ) (l : List Call) → n ≤ k → Every (λ c. c .slot < n) l → onlyOfTwo j k l ≡ onlyOf j l
 right-none n j k [] h e = refl
-right-none n j k (c ∷ l) h e = rw (ne-eqb (c .slot) k (λ p. omega (arith, e .0)), or-false (eqb (c .slot) j)) (ap (keepIf (eqb (c .slot) j) c) (right-none n j k l h (e .1)))
+right-none n j k (c ∷ l) h e =
+    rw (ne-eqb (c .slot) k (λ p. omega (arith, e .0)), or-false (eqb (c .slot) j)) (ap (keepIf (eqb (c .slot) j) c) (right-none n j k l h (e .1)))
 
 module _ (s : Scene) (l₁ l₂ : List ℕ) (a₁ : Accepted s l₁) (a₂ : Accepted s l₂)
     (one : (j : ℕ) → j < s .«joint_count» → onlyOf j (calls l₁) ≡ onlyOf j (calls l₂))
@@ -56,10 +55,14 @@ module _ (s : Scene) (l₁ l₂ : List ℕ) (a₁ : Accepted s l₁) (a₂ : Acc
       by : (a b : Bool) → leb (s .«joint_count») j ≡ a → leb (s .«joint_count») k ≡ b → onlyOfTwo j k (calls l₁) ≡ onlyOfTwo j k (calls l₂)
       by true b p q =
           let h = leb-true (s .«joint_count») j p in
-          left-none (s .«joint_count») j k (calls l₁) h (accepted-slots s l₁ a₁) ∙ every-one k ∙ sym (left-none (s .«joint_count») j k (calls l₂) h (accepted-slots s l₂ a₂))
+          left-none (s .«joint_count») j k (calls l₁) h (accepted-slots s l₁ a₁)
+          ∙ every-one k
+          ∙ sym (left-none (s .«joint_count») j k (calls l₂) h (accepted-slots s l₂ a₂))
       by false true p q =
           let h = leb-true (s .«joint_count») k q in
-          right-none (s .«joint_count») j k (calls l₁) h (accepted-slots s l₁ a₁) ∙ every-one j ∙ sym (right-none (s .«joint_count») j k (calls l₂) h (accepted-slots s l₂ a₂))
+          right-none (s .«joint_count») j k (calls l₁) h (accepted-slots s l₁ a₁)
+          ∙ every-one j
+          ∙ sym (right-none (s .«joint_count») j k (calls l₂) h (accepted-slots s l₂ a₂))
       by false false p q = two j k (leb-false (s .«joint_count») j p) (leb-false (s .«joint_count») k q) ne shared
 
   pub same-answer-counted : plainRun s l₁ ≡ plainRun s l₂

@@ -1,4 +1,4 @@
--- Which calls may change places: those of two joints that share no dynamic body. So the theorem on order holds of a scene's calls. Assumes nothing.
+-- Which calls may be exchanged: those of two joints that share no dynamic body. So the theorem on order holds of a scene's calls. Assumes nothing.
 use mathlib.Core.Path.{_≡_, refl, sym, ap, ap₂, _∙_}
 use mathlib.Core.Logic.{_⊎_, inl, inr, ⊎-elim, _≢_}
 use mathlib.Core.Bool.{Bool, true, false, _||_, true≢false, false≢true, and-eq-true-iff, or-self}
@@ -13,19 +13,18 @@ use Rattle.records.specs.declared.body.BodyState.{BodyState}
 use Rattle.records.specs.declared.joint.JointUnion.{JointUnion}
 use Rattle.records.specs.declared.joint.JointSim.{JointSim}
 use Rattle.records.specs.Body.{isDynamic, identityBodyState}
-use Rattle.records.specs.Joint.{jointSim, unusedJoint}
+use Rattle.records.specs.Joint.{unusedJoint}
 use Rattle.joint.specs.Stage.{Staged, stageJoint}
 use Rattle.scene.specs.declared.Scene.{Scene}
-use Rattle.scene.specs.Keep.{keepIf}
-use Rattle.scene.specs.Reorder.{runAll, Steps, or-left, or-right, reorder}
+use Rattle.scene.proofs.Reorder.{Steps, or-left, or-right, reorder}
 use Rattle.joint.specs.Index.{indexA, indexB}
-use Rattle.scene.specs.Scene.{jointAt, Dynamic, Names, ShareDynamic}
-use Rattle.scene.specs.Calls.{Call, calls, onlyOf, onlyOfTwo}
-use Rattle.scene.specs.Plain.{placed, stageAt, step, done, Accepted, plainRun}
-use Rattle.scene.specs.Stores.{clash, clash-at, Clear, both-unseen, both-swap}
-use Rattle.scene.specs.Framed.{Framed, framed-start, framed-step, fixed-at}
+use Rattle.scene.specs.Scene.{withBodiesAndJoints, jointAt, Dynamic, Names, ShareDynamic}
+use Rattle.scene.specs.Calls.{Call, calls, keepIf, onlyOf, onlyOfTwo}
+use Rattle.scene.specs.Plain.{placed, stageAt, step, runAll, done, Accepted, plainRun}
+use Rattle.scene.proofs.Stores.{clash, clash-at, Clear, both-unseen, both-swap}
+use Rattle.scene.proofs.Framed.{Framed, framed-start, framed-step, fixed-at}
 
--- ---- two calls of joints that do not clash change places
+-- ---- two calls of joints that do not clash may be exchanged
 
 step-is : (c : Call) (s : Scene) (j : JointSim) (r : Staged) → jointAt s (c .slot) ≡ j → stageAt s j (c .stage) ≡ r → step c s ≡ placed s (c .slot) j r
 unfolding step
@@ -37,7 +36,7 @@ stage-after : (s : Scene) (i : ℕ) (j : JointSim) (r : Staged) (k : JointSim) (
     → Clear (s .bodies) (j .«union_») (indexB (k .«union_»))
     → stageAt (placed s i j r) k stage ≡ stageAt s k stage
 stage-after s i j r k stage ha hb =
-    ap₂ (λ x y. stageJoint (k .«union_») (k .base) (s .context .h) (s .context .«inv_h») x y stage)
+    ap₂ (λ x y. stageJoint k (s .context) x y stage)
     (both-unseen (s .bodies) (j .«union_») (r .velocities) (indexA (k .«union_»)) ha)
     (both-unseen (s .bodies) (j .«union_») (r .velocities) (indexB (k .«union_»)) hb)
 
@@ -63,9 +62,9 @@ swap-calls a b s ne h₁ h₂ h₃ h₄ =
     let na : stageAt sa g (b .stage) ≡ n = stage-after s i j m g (b .stage) h₁ h₂ in
     let mb : stageAt sb j (a .stage) ≡ m = stage-after s k g n j (a .stage) h₃ h₄ in
     let bodies = both-swap (s .bodies) (j .«union_») (g .«union_») (m .velocities) (n .velocities) h₁ h₂ in
-    let joints = set-comm (s .joints) i k (jointSim (j .base) (m .«union_»)) (jointSim (g .base) (n .«union_»)) ne in
+    let joints = set-comm (s .joints) i k (m .joint) (n .joint) ne in
     ap (step b) ea ∙ step-is b sa g n ga na
-    ∙ ap₂ (λ bs js. record { joints = js; bodies = bs; «joint_count» = s .«joint_count»; «body_count» = s .«body_count»; context = s .context }) bodies joints
+    ∙ ap₂ (withBodiesAndJoints s) bodies joints
     ∙ sym (ap (step a) eb ∙ step-is a sb j m jb mb)
 
 -- ---- the test whether two slots share a dynamic body
@@ -88,8 +87,8 @@ clash-yes bs (negsuc m) y e = absurd (false≢true e)
 yes-clash : (bs : List BodyState) (x y : ℤ) (n : ℕ) → x ≡ pos n → y ≡ pos n → isDynamic (getD bs n identityBodyState) ≡ true → clash bs x y ≡ true
 yes-clash bs x y n p q e = rw (p, q, e, eq-eqb n n refl)
 
-clash-turned : (bs : List BodyState) (x y : ℤ) → clash bs x y ≡ false → clash bs y x ≡ false
-clash-turned bs x y h = by (clash bs y x) refl
+clash-either : (bs : List BodyState) (x y : ℤ) → clash bs x y ≡ false → clash bs y x ≡ false
+clash-either bs x y h = by (clash bs y x) refl
   where
     by : (b : Bool) → clash bs y x ≡ b → b ≡ false
     by true e = let r = clash-yes bs y x e in sym (yes-clash bs x y (r .0) (r .2) (r .1) (r .3)) ∙ h
@@ -100,7 +99,8 @@ abbrev hits : List BodyState → ℤ → JointUnion → Bool
 hits bs x u = clash bs x (indexA u) || clash bs x (indexB u)
 
 abbrev shares : Scene → ℕ → ℕ → Bool
-shares s j k = hits (s .bodies) (indexA (jointAt s j .«union_»)) (jointAt s k .«union_») || hits (s .bodies) (indexB (jointAt s j .«union_»)) (jointAt s k .«union_»)
+shares s j k =
+    hits (s .bodies) (indexA (jointAt s j .«union_»)) (jointAt s k .«union_») || hits (s .bodies) (indexB (jointAt s j .«union_»)) (jointAt s k .«union_»)
 
 -- the order of two slots' calls counts
 abbrev depends : Scene → ℕ → ℕ → Bool
@@ -131,8 +131,8 @@ shares-complete : (s : Scene) (j k n : ℕ) → Names s j n → Names s k n → 
 shares-complete s j k n (inl p) q e = or-left _ _ (to-hit s _ k n p q e)
 shares-complete s j k n (inr p) q e = or-right (hits (s .bodies) (indexA (jointAt s j .«union_»)) (jointAt s k .«union_»)) _ (to-hit s _ k n p q e)
 
-depends-turned : (s : Scene) (j k : ℕ) → depends s j k ≡ true → depends s k j ≡ true
-depends-turned s j k e =
+depends-either : (s : Scene) (j k : ℕ) → depends s j k ≡ true → depends s k j ≡ true
+depends-either s j k e =
     ⊎-elim
     (λ h. or-left (eqb k j) (shares s k j) (eq-eqb k j (sym (eqb-true j k h))))
     (λ h. let r = shares-sound s j k h in or-right (eqb k j) (shares s k j) (shares-complete s k j (r .0) (r .2) (r .1) (r .3)))
@@ -164,14 +164,14 @@ module _ (s t : Scene) (f : Framed s t) where
       let ab = clash-kept xa yb _ _ (fi .index-a) (fk .index-b) (q .1) in
       let ba = clash-kept xb ya _ _ (fi .index-b) (fk .index-a) (r .0) in
       let bb = clash-kept xb yb _ _ (fi .index-b) (fk .index-b) (r .1) in
-      let turn = clash-turned (t .bodies) in
-      swap-calls a b t (eqb-false i k (o .0)) (aa, ba) (ab, bb) (turn xa ya aa, turn xa yb ab) (turn xb ya ba, turn xb yb bb)
+      let other = clash-either (t .bodies) in
+      swap-calls a b t (eqb-false i k (o .0)) (aa, ba) (ab, bb) (other xa ya aa, other xa yb ab) (other xb ya ba, other xb yb bb)
 
 laws : (s : Scene) → Steps step (λ c. c .slot) (depends s) (Framed s)
 laws s =
     record {
       self = λ j. or-left (eqb j j) (shares s j j) (eq-eqb j j refl);
-      turned = depends-turned s;
+      either = depends-either s;
       keeps = λ c t f. framed-step s c t f;
       apart = λ a b t f h. may-swap s t f a b h;
     }

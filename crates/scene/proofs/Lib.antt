@@ -1,0 +1,13 @@
+pub mod Reorder
+pub mod Stages
+pub mod Stores
+pub mod Framed
+pub mod Order
+pub mod Accepted
+pub mod Counted
+pub mod TwoLists
+pub mod Changes
+pub mod Still
+pub mod Settled
+pub mod Examples
+pub mod Proved
