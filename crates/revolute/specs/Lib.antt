@@ -1,2 +1,2 @@
 pub mod Revolute
-pub mod Facts
+pub mod Claims

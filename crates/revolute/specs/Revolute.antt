@@ -1,12 +1,10 @@
--- joint/revolute.rs: the rows of the revolute joint and its three stages. Definitions only. Assumes nothing.
+-- joint/revolute.rs: prepare, warm start and solve of a revolute joint. Definitions only. Assumes nothing.
 use mathlib.Core.Bool.{Bool, not, cond}
 use mathlib.Core.Option.{Option·elim}
 use lib.Ieee.{Float}
-use lib.IntN.{ℤ}
 use Rattle.math_functions.specs.declared.types.Vec2.{Vec2}
 use Rattle.math_functions.specs.declared.types.Vec3.{Vec3}
 use Rattle.math_functions.specs.declared.types.Quat.{Quat}
-use Rattle.math_functions.specs.declared.types.Transform.{Transform}
 use Rattle.math_functions.specs.declared.types.Matrix3.{Matrix3}
 use Rattle.math_functions.specs.declared.matrix.Mat2.{Mat2}
 use Rattle.math_functions.specs.Float.{_⊕_, _⊖_, _⊗_, neg, lit, zero}
@@ -26,7 +24,8 @@ use Rattle.records.specs.declared.joint.RevoluteJoint.{RevoluteJoint}
 use Rattle.records.specs.declared.joint.JointBase.{JointBase}
 use Rattle.records.specs.declared.joint.JointSim.{JointSim}
 use Rattle.records.specs.declared.joint.JointUnion.the-variants.{Revolute}
-use Rattle.records.specs.Joint.{asRevolute, jointSim}
+use Rattle.records.specs.Joint.{asRevolute, jointSim, afterStage}
+use Rattle.records.specs.Revolute.{Written, Made, built, settingsOf, withWritten}
 use Rattle.constraint.specs.declared.velocity.Velocities.{Velocities}
 use Rattle.constraint.specs.declared.velocity.InvMasses.{InvMasses}
 use Rattle.constraint.specs.declared.rotation.RelativeRotation.{RelativeRotation}
@@ -40,19 +39,105 @@ use Rattle.constraint.specs.declared.answer.Solved.{Solved}
 use Rattle.constraint.specs.Velocity.{velocitiesOf, invMassesOf, applyAxial, applyAngular, applyPoint, applyWarm}
 use Rattle.constraint.specs.Soft.{softBias, softBias2, softImpulse, softImpulse3Products, rigid2}
 use Rattle.constraint.specs.Rotation.{flippedRelativeRotation}
-use Rattle.constraint.specs.Angular.{axialRow, row3, isWorked, twistLimitRows}
+use Rattle.constraint.specs.Angular.{axialRow, row3, isWorked, TwistLimit, twistLimitRows}
 use Rattle.constraint.specs.Point.{pointBias, pointMass, pointCdot}
 use Rattle.constraint.specs.Prepare.{prepareBase, prepareFrame, awakeIndex, axialMass}
 use Rattle.constraint.specs.Answer.{prepared, notPrepared, warmStarted, notWarmStarted, solved, notSolved}
+use Rattle.revolute.specs.declared.prepare.RevolutePrepared.{RevolutePrepared}
 use Rattle.revolute.specs.declared.rows.PerpRow.{PerpRow}
-use Rattle.revolute.specs.declared.stages.RevolutePrepared.{RevolutePrepared}
-use Rattle.revolute.specs.declared.stages.RevoluteSolved.{RevoluteSolved}
+use Rattle.revolute.specs.declared.solve.RevoluteSolved.{RevoluteSolved}
+
+-- the joint with other impulses and other perpendicular axes, and all else as it was: linear, perp, spring, motor, lower, upper, axis X, axis Y
+abbrev pub withImpulses : RevoluteJoint → Vec3 → Vec2 → Float → Float → Float → Float → Vec3 → Vec3 → RevoluteJoint
+withImpulses j linearImpulse perpImpulse springImpulse motorImpulse lowerImpulse upperImpulse perpAxisX perpAxisY =
+    withWritten j
+    (record {
+      «linear_impulse» = linearImpulse;
+      «perp_impulse» = perpImpulse;
+      «spring_impulse» = springImpulse;
+      «motor_impulse» = motorImpulse;
+      «lower_impulse» = lowerImpulse;
+      «upper_impulse» = upperImpulse;
+      «perp_axis_x» = perpAxisX;
+      «perp_axis_y» = perpAxisY;
+    })
+
+-- ==== Prepare
 
 -- 0.5
 abbrev pub half : Float
 half = lit 0x3f00_0000
 
--- ---- rows: each takes the fields that it reads. The first parameter of a row that can be skipped says whether it is worked; if not, it leaves all as it was
+-- one of the two perpendicular axes, for the X axis and for the Y axis alike
+unfoldable pub perpAxis : Quat → Quat → Vec3 → Vec3
+perpAxis q relQ axis = mulSv half (rotateVector q (add (mulSv (relQ .s) axis) (cross (relQ .v) axis)))
+
+-- what a solve writes, as the joint has it but for the perpendicular axes
+abbrev pub writtenWithAxes : RevoluteJoint → Vec3 → Vec3 → Written
+writtenWithAxes j perpAxisX perpAxisY =
+    record {
+      «linear_impulse» = j .«linear_impulse»;
+      «perp_impulse» = j .«perp_impulse»;
+      «spring_impulse» = j .«spring_impulse»;
+      «motor_impulse» = j .«motor_impulse»;
+      «lower_impulse» = j .«lower_impulse»;
+      «upper_impulse» = j .«upper_impulse»;
+      «perp_axis_x» = perpAxisX;
+      «perp_axis_y» = perpAxisY;
+    }
+
+-- document 01's prepare: impulses are cleared only if warm starting is off
+unfoldable pub keepImpulses : RevoluteJoint → Bool → RevoluteJoint
+keepImpulses j enableWarmStarting =
+    cond (not enableWarmStarting) (withImpulses j vec3Zero vec2Zero zero zero zero zero (j .«perp_axis_x») (j .«perp_axis_y»)) j
+
+abbrev pub revolutePrepared : JointBase → RevoluteJoint → RevolutePrepared
+revolutePrepared base joint = record { base = base; joint = joint }
+
+-- document 01's prepare, where deltaCenter is the difference of the centres. The rotation axis is the z-axis of body A; delta_angle stays
+unfoldable pub prepareRevolute : JointBase → RevoluteJoint → Float → Bool → Vec3 → BodyRecord → BodyRecord → RevolutePrepared
+prepareRevolute base j h enableWarmStarting deltaCenter bodyA bodyB =
+    let invInertiaSum = addMm (bodyA .«inv_inertia_world») (bodyB .«inv_inertia_world») in
+    let frameA = prepareFrame bodyA (base .«local_frame_a») in
+    let frameB = prepareFrame bodyB (base .«local_frame_b») in
+    let rotationAxisZ = rotateVector (frameA .q) vec3AxisZ in
+    let relQ = invMulQuat (frameA .q) (frameB .q) in
+    let written = writtenWithAxes j (perpAxis (frameA .q) relQ vec3AxisX) (perpAxis (frameA .q) relQ vec3AxisY) in
+    let made : Made =
+    record {
+      «frame_a» = frameA;
+      «frame_b» = frameB;
+      «rotation_axis_z» = rotationAxisZ;
+      «delta_center» = deltaCenter;
+      «delta_angle» = j .«delta_angle»;
+      «axial_mass» = axialMass invInertiaSum rotationAxisZ;
+      «spring_softness» = makeSoft (j .hertz) (j .«damping_ratio») h;
+    } in
+    let joint = built written (settingsOf j) (awakeIndex bodyA) (awakeIndex bodyB) made in
+    revolutePrepared (prepareBase base bodyA bodyB) (keepImpulses joint enableWarmStarting)
+
+-- ==== Warm start
+
+-- what an impulse about the two perpendicular axes is in the world
+unfoldable pub perpAngularImpulse : Vec2 → Vec3 → Vec3 → Vec3
+perpAngularImpulse impulse axisX axisY = add (mulSv (impulse .x) axisX) (mulSv (impulse .y) axisY)
+
+-- the angular impulse of all rows but the point row: the upper limit's is subtracted
+unfoldable pub warmAngularImpulse : RevoluteJoint → Vec3
+warmAngularImpulse j =
+    let axialImpulse = j .«spring_impulse» ⊕ j .«motor_impulse» ⊕ j .«lower_impulse» ⊖ j .«upper_impulse» in
+    mulAdd (perpAngularImpulse (j .«perp_impulse») (j .«perp_axis_x») (j .«perp_axis_y»)) axialImpulse (j .«rotation_axis_z»)
+
+-- the linear impulse with the angular impulse
+unfoldable pub warmStartRevolute : JointBase → RevoluteJoint → BodyState → BodyState → Velocities
+warmStartRevolute base j stateA stateB =
+    let rA = rotateVector (stateA .«delta_rotation») (j .«frame_a» .p) in
+    let rB = rotateVector (stateB .«delta_rotation») (j .«frame_b» .p) in
+    applyWarm (invMassesOf base) rA rB (j .«linear_impulse») (warmAngularImpulse j) (velocitiesOf stateA stateB)
+
+-- ==== Rows
+
+-- Each takes the fields that it reads. The first parameter of a row that can be skipped says whether it is worked; if not, it leaves all as it was.
 
 -- document 01's spring: of one dimension, about the rotation axis (spherical's is of three)
 unfoldable pub springRow : Bool → Quat → Float → Softness → Float → Vec3 → Float → InvMasses → Velocities → AxialRow
@@ -62,18 +147,18 @@ springRow worked relQ targetAngle softness mass axis oldImpulse m v =
     let deltaImpulse = softImpulse (softBias softness c) mass cdot oldImpulse in
     cond (not worked) (axialRow oldImpulse v) (axialRow (oldImpulse ⊕ deltaImpulse) (applyAxial m deltaImpulse axis v))
 
+-- the motor's impulse before it is clamped
+unfoldable pub motorSum : Float → Float → Vec3 → Float → Velocities → Float
+motorSum motorSpeed mass axis oldImpulse v =
+    let cdot = dot (sub (v .«w_b») (v .«w_a»)) axis ⊖ motorSpeed in
+    oldImpulse ⊕ neg mass ⊗ cdot
+
 -- document 01's motor: the impulse is clamped by its two signs (spherical's by its length)
 unfoldable pub motorRow : Bool → Float → Float → Float → Float → Vec3 → Float → InvMasses → Velocities → AxialRow
 motorRow worked motorSpeed maxMotorTorque h mass axis oldImpulse m v =
-    let cdot = dot (sub (v .«w_b») (v .«w_a»)) axis ⊖ motorSpeed in
-    let deltaImpulse = neg mass ⊗ cdot in
     let maxImpulse = maxMotorTorque ⊗ h in
-    let newImpulse = clampFloat (oldImpulse ⊕ deltaImpulse) (neg maxImpulse) maxImpulse in
+    let newImpulse = clampFloat (motorSum motorSpeed mass axis oldImpulse v) (neg maxImpulse) maxImpulse in
     cond (not worked) (axialRow oldImpulse v) (axialRow newImpulse (applyAxial m (newImpulse ⊖ oldImpulse) axis v))
-
--- one of the two perpendicular axes, for the X axis and for the Y axis alike
-unfoldable pub perpAxis : Quat → Quat → Vec3 → Vec3
-perpAxis q relQ axis = mulSv half (rotateVector q (add (mulSv (relQ .s) axis) (cross (relQ .v) axis)))
 
 -- soft only where the call has bias
 unfoldable pub perpBias : Bool → Softness → Quat → SoftBias2
@@ -90,10 +175,6 @@ perpMass invInertiaSum axisX axisY =
 -- as in the point row, two products are subtracted
 unfoldable pub softImpulse2Products : SoftBias2 → Vec2 → Vec2 → Vec2
 softImpulse2Products s b oldImpulse = sub2 (mulSv2 (neg (s .«mass_scale»)) b) (mulSv2 (s .«impulse_scale») oldImpulse)
-
--- what an impulse about the two axes is in the world
-unfoldable pub perpAngularImpulse : Vec2 → Vec3 → Vec3 → Vec3
-perpAngularImpulse impulse axisX axisY = add (mulSv (impulse .x) axisX) (mulSv (impulse .y) axisY)
 
 abbrev pub perpResult : Vec2 → Vec3 → Vec3 → Velocities → PerpRow
 perpResult impulse axisX axisY velocities = record { «perp_impulse» = impulse; «perp_axis_x» = axisX; «perp_axis_y» = axisY; velocities = velocities }
@@ -125,22 +206,40 @@ pointRow useBias softness rA rB dcA dcB deltaCenter oldImpulse m v =
     let impulse = softImpulse3Products s b oldImpulse in
     row3 (add oldImpulse impulse) (applyPoint m rA rB impulse v)
 
+-- ==== Solve
+
 -- where frame B stands relative to frame A. The second quaternion is flipped (spherical's is not)
 unfoldable pub jointRotation : RevoluteJoint → BodyState → BodyState → RelativeRotation
 jointRotation j stateA stateB = flippedRelativeRotation (stateA .«delta_rotation») (j .«frame_a» .q) (stateB .«delta_rotation») (j .«frame_b» .q)
 
 -- The rows at the fields of the joint and the states. All but the point row are skipped when rotation is fixed.
+
 unfoldable pub solveSpring : Bool → RevoluteJoint → Quat → InvMasses → Velocities → AxialRow
 solveSpring fixedRotation j relQ m v =
-    springRow (isWorked (j .«enable_spring») fixedRotation) relQ (j .«target_angle») (j .«spring_softness») (j .«axial_mass») (j .«rotation_axis_z») (j .«spring_impulse») m v
+    springRow (isWorked (j .«enable_spring») fixedRotation) relQ (j .«target_angle») (j .«spring_softness») (j .«axial_mass») (j .«rotation_axis_z»)
+    (j .«spring_impulse») m v
 
 unfoldable pub solveMotor : Bool → RevoluteJoint → Float → InvMasses → Velocities → AxialRow
 solveMotor fixedRotation j h m v =
-    motorRow (isWorked (j .«enable_motor») fixedRotation) (j .«motor_speed») (j .«max_motor_torque») h (j .«axial_mass») (j .«rotation_axis_z») (j .«motor_impulse») m v
+    motorRow (isWorked (j .«enable_motor») fixedRotation) (j .«motor_speed») (j .«max_motor_torque») h (j .«axial_mass») (j .«rotation_axis_z»)
+    (j .«motor_impulse») m v
+
+-- what the rows of the joint's limit are worked with, at a twist angle
+abbrev pub twistLimit : RevoluteJoint → Float → TwistLimit
+twistLimit j angle =
+    record {
+      angle = angle;
+      «lower_angle» = j .«lower_angle»;
+      «upper_angle» = j .«upper_angle»;
+      mass = j .«axial_mass»;
+      axis = j .«rotation_axis_z»;
+      «lower_impulse» = j .«lower_impulse»;
+      «upper_impulse» = j .«upper_impulse»;
+    }
 
 unfoldable pub solveLimits : Bool → Softness → RevoluteJoint → Quat → Float → Bool → InvMasses → Velocities → LimitRows
 solveLimits fixedRotation softness j relQ invH useBias m v =
-    twistLimitRows (isWorked (j .«enable_limit») fixedRotation) (getTwistAngle relQ) (j .«lower_angle») (j .«upper_angle») softness invH useBias (j .«axial_mass») (j .«rotation_axis_z») (j .«lower_impulse») (j .«upper_impulse») m v
+    twistLimitRows (isWorked (j .«enable_limit») fixedRotation) (twistLimit j (getTwistAngle relQ)) softness invH useBias m v
 
 unfoldable pub solvePerp : Bool → Softness → RevoluteJoint → RelativeRotation → Bool → InvMasses → Velocities → PerpRow
 solvePerp fixedRotation softness j rotation useBias m v =
@@ -151,41 +250,6 @@ solvePoint softness j stateA stateB useBias m v =
     let rA = rotateVector (stateA .«delta_rotation») (j .«frame_a» .p) in
     let rB = rotateVector (stateB .«delta_rotation») (j .«frame_b» .p) in
     pointRow useBias softness rA rB (stateA .«delta_position») (stateB .«delta_position») (j .«delta_center») (j .«linear_impulse») m v
-
--- the joint with other impulses and other perpendicular axes, and all else as it was: linear, perp, spring, motor, lower, upper, axis X, axis Y
-abbrev pub withImpulses : RevoluteJoint → Vec3 → Vec2 → Float → Float → Float → Float → Vec3 → Vec3 → RevoluteJoint
-withImpulses j linearImpulse perpImpulse springImpulse motorImpulse lowerImpulse upperImpulse perpAxisX perpAxisY =
-    record {
-      «linear_impulse» = linearImpulse;
-      «perp_impulse» = perpImpulse;
-      «spring_impulse» = springImpulse;
-      «motor_impulse» = motorImpulse;
-      «lower_impulse» = lowerImpulse;
-      «upper_impulse» = upperImpulse;
-      hertz = j .hertz;
-      «damping_ratio» = j .«damping_ratio»;
-      «max_motor_torque» = j .«max_motor_torque»;
-      «motor_speed» = j .«motor_speed»;
-      «target_angle» = j .«target_angle»;
-      «lower_angle» = j .«lower_angle»;
-      «upper_angle» = j .«upper_angle»;
-      «index_a» = j .«index_a»;
-      «index_b» = j .«index_b»;
-      «frame_a» = j .«frame_a»;
-      «frame_b» = j .«frame_b»;
-      «rotation_axis_z» = j .«rotation_axis_z»;
-      «perp_axis_x» = perpAxisX;
-      «perp_axis_y» = perpAxisY;
-      «delta_center» = j .«delta_center»;
-      «delta_angle» = j .«delta_angle»;
-      «axial_mass» = j .«axial_mass»;
-      «spring_softness» = j .«spring_softness»;
-      «enable_spring» = j .«enable_spring»;
-      «enable_motor» = j .«enable_motor»;
-      «enable_limit» = j .«enable_limit»;
-    }
-
--- ---- stages
 
 abbrev pub revoluteSolved : RevoluteJoint → Velocities → RevoluteSolved
 revoluteSolved joint velocities = record { joint = joint; velocities = velocities }
@@ -203,86 +267,20 @@ solveRevolute base j h invH stateA stateB useBias =
     let perp = solvePerp fixedRotation softness j rotation useBias m (limits .velocities) in
     let point = solvePoint softness j stateA stateB useBias m (perp .velocities) in
     revoluteSolved
-    (withImpulses j (point .impulse) (perp .«perp_impulse») (spring .impulse) (motor .impulse) (limits .«lower_impulse») (limits .«upper_impulse») (perp .«perp_axis_x») (perp .«perp_axis_y»))
+    (withImpulses j (point .impulse) (perp .«perp_impulse») (spring .impulse) (motor .impulse) (limits .«lower_impulse») (limits .«upper_impulse»)
+    (perp .«perp_axis_x») (perp .«perp_axis_y»))
     (point .velocities)
 
--- the angular impulse of all rows but the point row: the upper limit's is subtracted
-unfoldable pub warmAngularImpulse : RevoluteJoint → Vec3
-warmAngularImpulse j =
-    let axialImpulse = j .«spring_impulse» ⊕ j .«motor_impulse» ⊕ j .«lower_impulse» ⊖ j .«upper_impulse» in
-    mulAdd (perpAngularImpulse (j .«perp_impulse») (j .«perp_axis_x») (j .«perp_axis_y»)) axialImpulse (j .«rotation_axis_z»)
+-- ==== The stages over a joint of any kind
 
--- the linear impulse with the angular impulse
-unfoldable pub warmStartRevolute : JointBase → RevoluteJoint → BodyState → BodyState → Velocities
-warmStartRevolute base j stateA stateB =
-    let rA = rotateVector (stateA .«delta_rotation») (j .«frame_a» .p) in
-    let rB = rotateVector (stateB .«delta_rotation») (j .«frame_b» .p) in
-    applyWarm (invMassesOf base) rA rB (j .«linear_impulse») (warmAngularImpulse j) (velocitiesOf stateA stateB)
-
--- the joint with what prepare computes of it anew, and all else as it was
-abbrev pub withPrepared : RevoluteJoint → ℤ → ℤ → Transform → Transform → Vec3 → Vec3 → Float → Vec3 → Vec3 → Softness → RevoluteJoint
-withPrepared j indexA indexB frameA frameB deltaCenter rotationAxisZ mass perpAxisX perpAxisY softness =
-    record {
-      «linear_impulse» = j .«linear_impulse»;
-      «perp_impulse» = j .«perp_impulse»;
-      «spring_impulse» = j .«spring_impulse»;
-      «motor_impulse» = j .«motor_impulse»;
-      «lower_impulse» = j .«lower_impulse»;
-      «upper_impulse» = j .«upper_impulse»;
-      hertz = j .hertz;
-      «damping_ratio» = j .«damping_ratio»;
-      «max_motor_torque» = j .«max_motor_torque»;
-      «motor_speed» = j .«motor_speed»;
-      «target_angle» = j .«target_angle»;
-      «lower_angle» = j .«lower_angle»;
-      «upper_angle» = j .«upper_angle»;
-      «index_a» = indexA;
-      «index_b» = indexB;
-      «frame_a» = frameA;
-      «frame_b» = frameB;
-      «rotation_axis_z» = rotationAxisZ;
-      «perp_axis_x» = perpAxisX;
-      «perp_axis_y» = perpAxisY;
-      «delta_center» = deltaCenter;
-      «delta_angle» = j .«delta_angle»;
-      «axial_mass» = mass;
-      «spring_softness» = softness;
-      «enable_spring» = j .«enable_spring»;
-      «enable_motor» = j .«enable_motor»;
-      «enable_limit» = j .«enable_limit»;
-    }
-
--- document 01's prepare: impulses are cleared only if warm starting is off
-unfoldable pub keepImpulses : RevoluteJoint → Bool → RevoluteJoint
-keepImpulses j enableWarmStarting =
-    cond (not enableWarmStarting) (withImpulses j vec3Zero vec2Zero zero zero zero zero (j .«perp_axis_x») (j .«perp_axis_y»)) j
-
-abbrev pub revolutePrepared : JointBase → RevoluteJoint → RevolutePrepared
-revolutePrepared base joint = record { base = base; joint = joint }
-
--- document 01's prepare. The rotation axis is the z-axis of body A; delta_angle stays
-unfoldable pub prepareRevolute : JointBase → RevoluteJoint → Float → Bool → BodyRecord → BodyRecord → RevolutePrepared
-prepareRevolute base j h enableWarmStarting bodyA bodyB =
-    let invInertiaSum = addMm (bodyA .«inv_inertia_world») (bodyB .«inv_inertia_world») in
-    let frameA = prepareFrame bodyA (base .«local_frame_a») in
-    let frameB = prepareFrame bodyB (base .«local_frame_b») in
-    let deltaCenter = subPos (bodyB .center) (bodyA .center) in
-    let rotationAxisZ = rotateVector (frameA .q) vec3AxisZ in
-    let mass = axialMass invInertiaSum rotationAxisZ in
-    let relQ = invMulQuat (frameA .q) (frameB .q) in
-    let perpAxisX = perpAxis (frameA .q) relQ vec3AxisX in
-    let perpAxisY = perpAxis (frameA .q) relQ vec3AxisY in
-    let softness = makeSoft (j .hertz) (j .«damping_ratio») h in
-    revolutePrepared (prepareBase base bodyA bodyB)
-    (keepImpulses (withPrepared j (awakeIndex bodyA) (awakeIndex bodyB) frameA frameB deltaCenter rotationAxisZ mass perpAxisX perpAxisY softness) enableWarmStarting)
-
--- ---- the stages over a joint of any kind: one whose case is not Revolute gets number 1, place 0, and nothing is altered
+-- A joint whose case is not Revolute gets number 1, place 0, and nothing is altered.
 
 -- of the context h and enable_warm_starting
 unfoldable pub prepareRevoluteJoint : JointSim → StepContext → BodyRecord → BodyRecord → Prepared
 prepareRevoluteJoint sim context bodyA bodyB =
     Option·elim (asRevolute (sim .«union_»)) (notPrepared sim) λ j.
-    let r = prepareRevolute (sim .base) j (context .h) (context .«enable_warm_starting») bodyA bodyB in
+    let deltaCenter = subPos (bodyB .center) (bodyA .center) in
+    let r = prepareRevolute (sim .base) j (context .h) (context .«enable_warm_starting») deltaCenter bodyA bodyB in
     prepared (jointSim (r .base) (Revolute (r .joint)))
 
 unfoldable pub warmStartRevoluteJoint : JointSim → BodyState → BodyState → WarmStarted
@@ -294,4 +292,4 @@ unfoldable pub solveRevoluteJoint : JointSim → StepContext → BodyState → B
 solveRevoluteJoint sim context stateA stateB useBias =
     Option·elim (asRevolute (sim .«union_»)) (notSolved sim stateA stateB) λ j.
     let r = solveRevolute (sim .base) j (context .h) (context .«inv_h») stateA stateB useBias in
-    solved (jointSim (sim .base) (Revolute (r .joint))) (r .velocities)
+    solved (afterStage sim (Revolute (r .joint))) (r .velocities)

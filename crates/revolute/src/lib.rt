@@ -4,14 +4,19 @@ ghost use mathlib.Core.Path.{_≡_};
 ghost use Rattle.records.specs.Joint.{jointSim};
 ghost use Rattle.records.specs.declared.joint.JointUnion.the-variants.{Revolute};
 ghost use Rattle.revolute.specs.Revolute as D;
-use crate::stages::prepare_revolute;
-use crate::stages::solve_revolute;
-use crate::stages::warm_start_revolute;
+use crate::prepare::prepare_revolute;
+use crate::solve::solve_revolute;
+use crate::warm_start::warm_start_revolute;
 use constraint::answer::Prepared;
 use constraint::answer::Solved;
-use constraint::answer::WRONG_KIND;
 use constraint::answer::WarmStarted;
-use constraint::velocity::velocities_of;
+use constraint::answer::prepare_done;
+use constraint::answer::prepare_refused;
+use constraint::answer::solve_done;
+use constraint::answer::solve_refused;
+use constraint::answer::warm_start_done;
+use constraint::answer::warm_start_refused;
+use math_functions::transform::sub_pos;
 use records::body::BodyRecord;
 use records::body::BodyState;
 use records::joint::JointBase;
@@ -20,8 +25,10 @@ use records::joint::JointUnion;
 use records::joint::RevoluteJoint;
 use solver::StepContext;
 
+mod prepare;
 mod rows;
-mod stages;
+mod solve;
+mod warm_start;
 
 // A joint of this kind.
 fn revolute_sim(base: JointBase, joint: RevoluteJoint) -> JointSim
@@ -44,26 +51,20 @@ pub fn prepare_revolute_joint(
 {
     let u = joint.union_;
     let JointUnion::Revolute(k) = u else {
-        return Prepared {
-            number: WRONG_KIND,
-            place: 0,
-            joint,
-        };
+        return prepare_refused(joint);
     };
+    let delta_center = sub_pos(body_b.center, body_a.center);
     let p = prepare_revolute(
         joint.base,
         k,
         context.h,
         context.enable_warm_starting,
+        delta_center,
         body_a,
         body_b,
     );
     joint = revolute_sim(p.base, p.joint);
-    Prepared {
-        number: 0,
-        place: 0,
-        joint,
-    }
+    prepare_done(joint)
 }
 
 // Warm start; the joint comes back as it was, and one of another kind is refused.
@@ -76,20 +77,10 @@ pub fn warm_start_revolute_joint(
 {
     let u = joint.union_;
     let JointUnion::Revolute(k) = u else {
-        return WarmStarted {
-            number: WRONG_KIND,
-            place: 0,
-            joint,
-            velocities: velocities_of(state_a, state_b),
-        };
+        return warm_start_refused(joint, state_a, state_b);
     };
     let velocities = warm_start_revolute(joint.base, k, state_a, state_b);
-    WarmStarted {
-        number: 0,
-        place: 0,
-        joint,
-        velocities,
-    }
+    warm_start_done(joint, velocities)
 }
 
 // Solve; a joint that is no revolute joint is refused.
@@ -104,12 +95,7 @@ pub fn solve_revolute_joint(
 {
     let u = joint.union_;
     let JointUnion::Revolute(k) = u else {
-        return Solved {
-            number: WRONG_KIND,
-            place: 0,
-            joint,
-            velocities: velocities_of(state_a, state_b),
-        };
+        return solve_refused(joint, state_a, state_b);
     };
     let s = solve_revolute(
         joint.base,
@@ -122,10 +108,5 @@ pub fn solve_revolute_joint(
     );
     let velocities = s.velocities;
     joint = revolute_sim(joint.base, s.joint);
-    Solved {
-        number: 0,
-        place: 0,
-        joint,
-        velocities,
-    }
+    solve_done(joint, velocities)
 }

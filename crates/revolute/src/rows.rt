@@ -2,6 +2,8 @@
 // limit rows are those of every twist limit.
 ghost use mathlib.Core.Path.{_≡_};
 ghost use Rattle.revolute.specs.Revolute as D;
+use crate::prepare::perp_axis;
+use crate::warm_start::perp_angular_impulse;
 use constraint::angular::AxialRow;
 use constraint::angular::Row3;
 use constraint::point::add_mass;
@@ -31,7 +33,6 @@ use math_functions::matrix::skew;
 use math_functions::matrix::solve2;
 use math_functions::matrix::solve3;
 use math_functions::quat::get_twist_angle;
-use math_functions::quat::rotate_vector;
 use math_functions::scalar::clamp_float;
 use math_functions::types::Matrix3;
 use math_functions::types::Quat;
@@ -40,9 +41,7 @@ use math_functions::types::VEC3_AXIS_Y;
 use math_functions::types::Vec2;
 use math_functions::types::Vec3;
 use math_functions::vector::add;
-use math_functions::vector::cross;
 use math_functions::vector::dot;
-use math_functions::vector::mul_sv;
 use math_functions::vector::sub;
 use solver::Softness;
 
@@ -87,6 +86,15 @@ pub fn spring_row(
     }
 }
 
+// The motor's impulse before it is clamped.
+fn motor_sum(motor_speed: f32, mass: f32, axis: Vec3, old_impulse: f32, v: Velocities) -> f32
+    ensures { λ r. ⌜ r ≡ D.motorSum «motor_speed» mass axis «old_impulse» v ⌝ }
+{
+    let cdot = dot(sub(v.w_b, v.w_a), axis) - motor_speed;
+    let delta_impulse = -mass * cdot;
+    old_impulse + delta_impulse
+}
+
 // The motor drives the bodies to the motor speed, with no more than its torque in each direction.
 pub fn motor_row(
     worked: bool,
@@ -107,23 +115,14 @@ pub fn motor_row(
             velocities: v,
         };
     }
-    let cdot = dot(sub(v.w_b, v.w_a), axis) - motor_speed;
-    let delta_impulse = -mass * cdot;
+    let sum = motor_sum(motor_speed, mass, axis, old_impulse, v);
     let max_impulse = max_motor_torque * h;
-    let impulse = clamp_float(old_impulse + delta_impulse, -max_impulse, max_impulse);
+    let impulse = clamp_float(sum, -max_impulse, max_impulse);
     let velocities = apply_axial(m, impulse - old_impulse, axis, v);
     AxialRow {
         impulse,
         velocities,
     }
-}
-
-// One of the two axes that stay collinear, in the world, where q is the rotation of frame A.
-pub fn perp_axis(q: Quat, rel_q: Quat, axis: Vec3) -> Vec3
-    ensures { λ r. ⌜ r ≡ D.perpAxis q «rel_q» axis ⌝ }
-{
-    let turned = add(mul_sv(rel_q.s, axis), cross(rel_q.v, axis));
-    mul_sv(0.5, rotate_vector(q, turned))
 }
 
 // The bias of the perpendicular row.
@@ -163,13 +162,6 @@ fn soft_impulse2_products(s: SoftBias2, b: Vec2, old_impulse: Vec2) -> Vec2
         mul_sv2(-s.mass_scale, b),
         mul_sv2(s.impulse_scale, old_impulse),
     )
-}
-
-// The angular impulse of an impulse about the two perpendicular axes.
-pub fn perp_angular_impulse(impulse: Vec2, axis_x: Vec3, axis_y: Vec3) -> Vec3
-    ensures { λ r. ⌜ r ≡ D.perpAngularImpulse impulse «axis_x» «axis_y» ⌝ }
-{
-    add(mul_sv(impulse.x, axis_x), mul_sv(impulse.y, axis_y))
 }
 
 // Collinearity constraint, once its two axes are known.

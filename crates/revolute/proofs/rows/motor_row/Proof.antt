@@ -9,12 +9,11 @@ returns c = rw (c .if1 .taken)
 returns-2 : tie.Need-returns-2
 unfolding motorRow
 returns-2 c = rw (
-  ← (c .before .before .before .sub .ensures),
-  ← (c .before .before .dot .ensures),
+  ← (c .before .before .motor-sum .ensures),
   ← (c .before .clamp-float .ensures),
   ← (c .apply-axial .ensures),
-  c .before .before .before .before .if1 .left,
+  c .before .before .before .if1 .left,
 )
 
 pub motor-row-spec : {M : Type 1} → statement M
-motor-row-spec = tie.close (tie.spec returns (λ c κs. tt) (λ c κs. tt) (λ c κs. tt) (λ c κs. tt) returns-2)
+motor-row-spec = tie.close (tie.spec returns (λ c κs. tt) (λ c κs. tt) (λ c κs. tt) returns-2)

@@ -1,8 +1,0 @@
-use Rattle.constraint.specs.Rotation.{flippedRelativeRotation}
-use Rattle.revolute.specs.Revolute.{jointRotation}
-use Rattle.revolute.proofs.stages.joint_rotation.Statement.{statement}
-use Rattle.revolute.proofs.stages.joint_rotation.Tie as tie
-
-pub joint-rotation-spec : {M : Type 1} → statement M
-unfolding jointRotation flippedRelativeRotation
-joint-rotation-spec = tie.close (tie.spec (λ c κs. tt) (λ c κs. tt) (λ c κs. tt) (λ c κs. tt) (λ c. rw (← (c .before .before .before .mul-quat .ensures), ← (c .before .before .mul-quat2 .ensures), ← (c .before .same-polarity .ensures), ← (c .inv-mul-quat .ensures))))

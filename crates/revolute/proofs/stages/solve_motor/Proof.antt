@@ -1,7 +1,0 @@
-use Rattle.revolute.specs.Revolute.{solveMotor}
-use Rattle.revolute.proofs.stages.solve_motor.Statement.{statement}
-use Rattle.revolute.proofs.stages.solve_motor.Tie as tie
-
-pub solve-motor-spec : {M : Type 1} → statement M
-unfolding solveMotor
-solve-motor-spec = tie.close (tie.spec (λ c κs. tt) (λ c κs. tt) (λ c. rw (← (c .before .is-worked .ensures), ← (c .motor-row .ensures))))

@@ -1,7 +1,0 @@
-use Rattle.revolute.specs.Revolute.{solveSpring}
-use Rattle.revolute.proofs.stages.solve_spring.Statement.{statement}
-use Rattle.revolute.proofs.stages.solve_spring.Tie as tie
-
-pub solve-spring-spec : {M : Type 1} → statement M
-unfolding solveSpring
-solve-spring-spec = tie.close (tie.spec (λ c κs. tt) (λ c κs. tt) (λ c. rw (← (c .before .is-worked .ensures), ← (c .spring-row .ensures))))
