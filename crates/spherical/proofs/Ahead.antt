@@ -2,26 +2,39 @@
 use mathlib.Core.Path.{_≡_, refl}
 use mathlib.Core.Bool.{Bool, true, false}
 use lib.Ieee.{Float}
-use Rattle.math_functions.specs.declared.types.Vec3.{Vec3}
 use Rattle.math_functions.specs.declared.types.Quat.{Quat}
 use Rattle.math_functions.specs.Quat.{getTwistAngle, getSwingAngle}
 use Rattle.solver.specs.declared.Softness.{Softness}
+use Rattle.records.specs.declared.joint.SphericalJoint.{SphericalJoint}
 use Rattle.constraint.specs.declared.velocity.Velocities.{Velocities}
 use Rattle.constraint.specs.declared.velocity.InvMasses.{InvMasses}
-use Rattle.constraint.specs.Angular.{twistLimitRows}
-use Rattle.spherical.specs.Spherical.{coneRow}
+use Rattle.constraint.specs.declared.angular.AxialRow.{AxialRow}
+use Rattle.constraint.specs.Angular.{isWorked, twistLimitRows}
+use Rattle.spherical.specs.Spherical.{twistLimit, coneRow, solveLimits, solveCone}
 use Rattle.spherical.specs.Steps.{twistAngleIf, swingAngleIf}
 
-pub twist-ahead : (worked : Bool) (relQ : Quat) (lower upper : Float) (s : Softness) (invH : Float) (useBias : Bool) (mass : Float) (axis : Vec3) (oldLower oldUpper : Float) (m : InvMasses) (v : Velocities)
-    → twistLimitRows worked (getTwistAngle relQ) lower upper s invH useBias mass axis oldLower oldUpper m v
-    ≡ twistLimitRows worked (twistAngleIf worked relQ) lower upper s invH useBias mass axis oldLower oldUpper m v
-unfolding twistLimitRows twistAngleIf
-twist-ahead true relQ lower upper s invH useBias mass axis oldLower oldUpper m v = refl
-twist-ahead false relQ lower upper s invH useBias mass axis oldLower oldUpper m v = refl
+module _ (fixedRotation : Bool) (s : Softness) (j : SphericalJoint) (relQ : Quat) (invH : Float) (useBias : Bool) (m : InvMasses) (v : Velocities) where
+  pub limits-ahead :
+      let angle = twistAngleIf (isWorked (j .«enable_twist_limit») fixedRotation) relQ in
+      solveLimits fixedRotation s j (getTwistAngle relQ) invH useBias m v ≡ solveLimits fixedRotation s j angle invH useBias m v
+  unfolding solveLimits twistLimitRows twistAngleIf
+  limits-ahead = go (isWorked (j .«enable_twist_limit») fixedRotation)
+    where
+      go : (worked : Bool)
+          → twistLimitRows worked (twistLimit j (getTwistAngle relQ)) s invH useBias m v
+          ≡ twistLimitRows worked (twistLimit j (twistAngleIf worked relQ)) s invH useBias m v
+      go true = refl
+      go false = refl
 
-pub cone-ahead : (worked : Bool) (relQ : Quat) (coneAngle : Float) (s : Softness) (invH : Float) (useBias : Bool) (mass : Float) (axis : Vec3) (old : Float) (m : InvMasses) (v : Velocities)
-    → coneRow worked (getSwingAngle relQ) coneAngle s invH useBias mass axis old m v
-    ≡ coneRow worked (swingAngleIf worked relQ) coneAngle s invH useBias mass axis old m v
-unfolding coneRow swingAngleIf
-cone-ahead true relQ coneAngle s invH useBias mass axis old m v = refl
-cone-ahead false relQ coneAngle s invH useBias mass axis old m v = refl
+  pub cone-ahead :
+      let angle = swingAngleIf (isWorked (j .«enable_cone_limit») fixedRotation) relQ in
+      solveCone fixedRotation s j (getSwingAngle relQ) invH useBias m v ≡ solveCone fixedRotation s j angle invH useBias m v
+  unfolding solveCone coneRow swingAngleIf
+  cone-ahead = go (isWorked (j .«enable_cone_limit») fixedRotation)
+    where
+      row : Bool → Float → AxialRow
+      row worked angle = coneRow worked angle (j .«cone_angle») s invH useBias (j .«swing_mass») (j .«swing_axis») (j .«swing_impulse») m v
+
+      go : (worked : Bool) → row worked (getSwingAngle relQ) ≡ row worked (swingAngleIf worked relQ)
+      go true = refl
+      go false = refl

@@ -1,4 +1,5 @@
--- What the functions' proofs cite. Assumes nothing.
+-- What holds of the stages (`Facts`), and what the functions' proofs cite. Assumes nothing.
+pub mod Facts
 mod Ahead
 mod Limits
 mod One

@@ -8,16 +8,18 @@ use Rattle.math_functions.specs.Scalar.{maxFloat}
 use Rattle.constraint.specs.declared.soft.SoftBias.{SoftBias}
 use Rattle.constraint.specs.declared.velocity.Velocities.{Velocities}
 use Rattle.constraint.specs.declared.velocity.InvMasses.{InvMasses}
+use Rattle.constraint.specs.declared.angular.AxialRow.{AxialRow}
 use Rattle.constraint.specs.Soft.{limitImpulse}
 use Rattle.constraint.specs.Angular.{upperLimitRow}
 use Rattle.constraint.specs.Steps.{upperLimitSum, upperRowTo}
 
-pub upper-pushes : (s : SoftBias) (mass : Float) (axis : Vec3) (old : Float) (m : InvMasses) (v : Velocities) (sum : Float)
-    → sum ≡ upperLimitSum s mass axis old v → gt sum zero ≡ true → upperRowTo sum old axis m v ≡ upperLimitRow s mass axis old m v
-unfolding upperLimitRow upperLimitSum upperRowTo limitImpulse maxFloat
-upper-pushes s mass axis old m v sum is pushes = rw (← is, pushes)
+module _ (s : SoftBias) (mass : Float) (axis : Vec3) (old : Float) (m : InvMasses) (v : Velocities) {sum : Float} {row : AxialRow} where
+  pub upper-pushes : row ≡ upperRowTo sum old axis m v → sum ≡ upperLimitSum s mass axis old v → gt sum zero ≡ true
+      → row ≡ upperLimitRow s mass axis old m v
+  unfolding upperLimitRow upperLimitSum upperRowTo limitImpulse maxFloat
+  upper-pushes to is pushes = rw (← is, pushes) to
 
-pub upper-rests : (s : SoftBias) (mass : Float) (axis : Vec3) (old : Float) (m : InvMasses) (v : Velocities) (sum : Float)
-    → sum ≡ upperLimitSum s mass axis old v → gt sum zero ≡ false → upperRowTo zero old axis m v ≡ upperLimitRow s mass axis old m v
-unfolding upperLimitRow upperLimitSum upperRowTo limitImpulse maxFloat
-upper-rests s mass axis old m v sum is rests = rw (← is, rests)
+  pub upper-rests : row ≡ upperRowTo zero old axis m v → sum ≡ upperLimitSum s mass axis old v → gt sum zero ≡ false
+      → row ≡ upperLimitRow s mass axis old m v
+  unfolding upperLimitRow upperLimitSum upperRowTo limitImpulse maxFloat
+  upper-rests to is rests = rw (← is, rests) to

@@ -1,7 +1,8 @@
 -- One times a value of binary32 is that value, a NaN, an infinity and a zero of either sign among them. Assumes nothing.
 use mathlib.Core.Path.{_≡_, refl, sym, ap, _∙_, subst}
 use Prim.Native.Nat.{ℕ, zero, suc, _+_, _-_, _*_, _/_, _%_, _^_, _≤_, _<_}
-use native.Mathlib.Nat.{le-trans, le-of-suc-le-suc, lt-of-not-le, lt-of-lt-of-le, lt-irrefl, one-mul, mul-one, mul-assoc, mul-right-comm, mul-div-cancel, zero-mul}
+use native.Mathlib.Nat.{le-trans, le-of-suc-le-suc, lt-of-not-le, lt-of-lt-of-le, lt-irrefl}
+use native.Mathlib.Nat.{zero-mul, one-mul, mul-one, mul-assoc, mul-right-comm, mul-div-cancel}
 use mathlib.Core.Bool.{Bool, true, false, _&&_}
 use lib.Dec.{T, ltb, leb, eqb, leb→le, lit<}
 use lib.IntN.{ℤ, pos, negsuc}
@@ -20,7 +21,9 @@ use Rattle.math_functions.specs.Float.{_⊗_, one}
 units : (e : ℤ) → down e ≤ 2 ^ 149 → (j : ℕ) × (up e * 2 ^ 149 ≡ 2 ^ j * down e)
 units (pos a) h = (a + 149, sym (pow-add 2 a 149) ∙ sym (mul-one (2 ^ (a + 149))))
 units (negsuc a) h =
-    let l : suc a ≤ 149 = le-of-suc-le-suc (lt-of-not-le (λ (g : 150 ≤ suc a). lt-irrefl (2 ^ 149) (lt-of-lt-of-le (pow-lt {i = 149} {j = 150} (lit< tt)) (le-trans (pow-mono g) h)))) in
+    let below : 2 ^ 149 < 2 ^ 150 = pow-lt {i = 149} {j = 150} (lit< tt) in
+    let l : suc a ≤ 149 =
+    le-of-suc-le-suc (lt-of-not-le (λ (g : 150 ≤ suc a). lt-irrefl (2 ^ 149) (lt-of-lt-of-le below (le-trans (pow-mono g) h)))) in
     (149 - suc a, one-mul (2 ^ 149) ∙ ap (λ (x : ℕ). 2 ^ x) (sym (back 149 (suc a) l)) ∙ pow-add 2 (149 - suc a) (suc a))
 
 low-enough : (s : Bool) (m : ℕ) (e : ℤ) → T (fits binary32 (fin s (suc m) e)) → down e ≤ 2 ^ 149
@@ -38,7 +41,8 @@ round-value s zero e h =
     (ap (λ (x : ℕ). x * 2 ^ 149) (zero-mul (up e)) ∙ zero-mul (2 ^ 149) ∙ sym (zero-mul (down e)))
 round-value s (suc m) e h =
     let u = units e (low-enough s m e h) in
-    let is : suc m * up e * 2 ^ 149 ≡ suc m * 2 ^ (u .0) * down e = mul-assoc (suc m) (up e) (2 ^ 149) ∙ ap (λ (x : ℕ). suc m * x) (u .1) ∙ sym (mul-assoc (suc m) (2 ^ (u .0)) (down e)) in
+    let is : suc m * up e * 2 ^ 149 ≡ suc m * 2 ^ (u .0) * down e =
+    mul-assoc (suc m) (up e) (2 ^ 149) ∙ ap (λ (x : ℕ). suc m * x) (u .1) ∙ sym (mul-assoc (suc m) (2 ^ (u .0)) (down e)) in
     round-exact binary32 s (suc m * up e) (down e) (suc m) (u .0) (down-pos e) (digits s m e h .few)
     (subst (λ (x : ℕ). x < 2 ^ 277) (ap (λ (x : ℕ). x / down e) is ∙ mul-div-cancel (suc m * 2 ^ (u .0)) (down-pos e)) (units-lt s m e h))
     is

@@ -1,3 +1,3 @@
 pub mod Spherical
 pub mod Steps
-pub mod Facts
+pub mod Claims

@@ -2,11 +2,9 @@
 use mathlib.Core.Bool.{Bool, not, cond}
 use mathlib.Core.Option.{Option·elim}
 use lib.Ieee.{Float}
-use lib.IntN.{ℤ}
 use Rattle.sqrt.specs.Sqrt.{sqrt}
 use Rattle.math_functions.specs.declared.types.Vec3.{Vec3}
 use Rattle.math_functions.specs.declared.types.Quat.{Quat}
-use Rattle.math_functions.specs.declared.types.Transform.{Transform}
 use Rattle.math_functions.specs.declared.types.Matrix3.{Matrix3}
 use Rattle.math_functions.specs.Float.{_⊕_, _⊖_, _⊗_, _⊘_, gt, zero}
 use Rattle.math_functions.specs.Types.{vec3Zero, vec3AxisZ, mat3Zero}
@@ -23,12 +21,14 @@ use Rattle.records.specs.declared.joint.JointBase.{JointBase}
 use Rattle.records.specs.declared.joint.JointSim.{JointSim}
 use Rattle.records.specs.declared.joint.JointUnion.the-variants.{Spherical}
 use Rattle.records.specs.declared.joint.SphericalJoint.{SphericalJoint}
-use Rattle.records.specs.Joint.{asSpherical, jointSim}
+use Rattle.records.specs.Joint.{asSpherical, jointSim, afterStage}
+use Rattle.records.specs.Spherical.{Made, built, writtenOf, settingsOf, withWritten}
 use Rattle.constraint.specs.declared.velocity.Velocities.{Velocities}
 use Rattle.constraint.specs.declared.velocity.InvMasses.{InvMasses}
 use Rattle.constraint.specs.declared.rotation.RelativeRotation.{RelativeRotation}
 use Rattle.constraint.specs.declared.soft.SoftBias3.{SoftBias3}
 use Rattle.constraint.specs.declared.angular.AxialRow.{AxialRow}
+use Rattle.constraint.specs.declared.angular.LimitRows.{LimitRows}
 use Rattle.constraint.specs.declared.angular.Row3.{Row3}
 use Rattle.constraint.specs.declared.answer.Prepared.{Prepared}
 use Rattle.constraint.specs.declared.answer.WarmStarted.{WarmStarted}
@@ -36,124 +36,31 @@ use Rattle.constraint.specs.declared.answer.Solved.{Solved}
 use Rattle.constraint.specs.Velocity.{velocitiesOf, invMassesOf, applyAngular, applyPoint, applyWarm}
 use Rattle.constraint.specs.Soft.{softBias3, limitBias, softImpulse3}
 use Rattle.constraint.specs.Rotation.{relativeRotation}
-use Rattle.constraint.specs.Angular.{axialRow, row3, isWorked, upperLimitRow, angularRow, twistLimitRows}
+use Rattle.constraint.specs.Angular.{axialRow, row3, isWorked, upperLimitRow, angularRow, TwistLimit, twistLimitRows}
 use Rattle.constraint.specs.Point.{pointBias, pointMass, pointCdot}
 use Rattle.constraint.specs.Prepare.{prepareBase, awakeIndex, prepareFrame, axialMass}
 use Rattle.constraint.specs.Answer.{prepared, notPrepared, warmStarted, notWarmStarted, solved, notSolved}
 use Rattle.spherical.specs.declared.prepare.LimitAxis.{LimitAxis}
 use Rattle.spherical.specs.declared.prepare.SphericalPrepared.{SphericalPrepared}
-use Rattle.spherical.specs.declared.stages.SphericalSolved.{SphericalSolved}
+use Rattle.spherical.specs.declared.solve.SphericalSolved.{SphericalSolved}
 
--- the joint with other impulses: linear, spring, motor, lower twist, upper twist, swing. All else is j's.
+-- the joint with other impulses, and all else as it was: linear, spring, motor, lower twist, upper twist, swing
 abbrev pub withImpulses : SphericalJoint → Vec3 → Vec3 → Vec3 → Float → Float → Float → SphericalJoint
 withImpulses j linear spring motor lowerTwist upperTwist swing =
-    record {
+    withWritten j
+    (record {
       «linear_impulse» = linear;
       «spring_impulse» = spring;
       «motor_impulse» = motor;
       «lower_twist_impulse» = lowerTwist;
       «upper_twist_impulse» = upperTwist;
       «swing_impulse» = swing;
-      hertz = j .hertz;
-      «damping_ratio» = j .«damping_ratio»;
-      «max_motor_torque» = j .«max_motor_torque»;
-      «motor_velocity» = j .«motor_velocity»;
-      «lower_twist_angle» = j .«lower_twist_angle»;
-      «upper_twist_angle» = j .«upper_twist_angle»;
-      «cone_angle» = j .«cone_angle»;
-      «target_rotation» = j .«target_rotation»;
-      «index_a» = j .«index_a»;
-      «index_b» = j .«index_b»;
-      «frame_a» = j .«frame_a»;
-      «frame_b» = j .«frame_b»;
-      «delta_center» = j .«delta_center»;
-      «swing_axis» = j .«swing_axis»;
-      «twist_jacobian» = j .«twist_jacobian»;
-      «rotation_mass» = j .«rotation_mass»;
-      «swing_mass» = j .«swing_mass»;
-      «twist_mass» = j .«twist_mass»;
-      «spring_softness» = j .«spring_softness»;
-      «enable_spring» = j .«enable_spring»;
-      «enable_motor» = j .«enable_motor»;
-      «enable_cone_limit» = j .«enable_cone_limit»;
-      «enable_twist_limit» = j .«enable_twist_limit»;
-    }
+    })
 
--- ---- the rows of a solve
-
--- Spring. The error is minus the rotation to the target, turned into the world; the softness is the spring's own, with or without bias.
-unfoldable pub springRow : Bool → RelativeRotation → Quat → Softness → Matrix3 → Vec3 → InvMasses → Velocities → Row3
-springRow worked rotation targetRotation springSoftness rotationMass oldImpulse m v =
-    let c = neg (rotateVector (rotation .«quat_a») (deltaQuatToRotation (rotation .«rel_q») targetRotation)) in
-    cond (not worked) (row3 oldImpulse v) (angularRow (softBias3 springSoftness c) rotationMass oldImpulse m v)
-
--- the impulse, scaled where it is longer than maxImpulse
-unfoldable pub limitLength : Vec3 → Float → Vec3
-limitLength impulse maxImpulse =
-    let len = length impulse in
-    cond (gt len maxImpulse) (mulSv (maxImpulse ⊘ len) impulse) impulse
-
--- Motor: its impulse is a vector, scaled to the length max_motor_torque × h where it is longer (revolute's is a number, clamped).
-unfoldable pub motorRow : Bool → Vec3 → Float → Float → Matrix3 → Vec3 → InvMasses → Velocities → Row3
-motorRow worked motorVelocity maxMotorTorque h rotationMass oldImpulse m v =
-    let cdot = sub (v .«w_b») (v .«w_a») in
-    let lambda = neg (mulMv rotationMass (sub cdot motorVelocity)) in
-    let impulse = limitLength (add oldImpulse lambda) (maxMotorTorque ⊗ h) in
-    cond (not worked) (row3 oldImpulse v) (row3 impulse (applyAngular m (sub impulse oldImpulse) v))
-
--- Cone: an upper limit, about the swing axis. The gap is the cone's angle less the swing angle.
-unfoldable pub coneRow : Bool → Float → Float → Softness → Float → Bool → Float → Vec3 → Float → InvMasses → Velocities → AxialRow
-coneRow worked swingAngle coneAngle s invH useBias swingMass swingAxis oldImpulse m v =
-    let c = coneAngle ⊖ swingAngle in
-    cond (not worked) (axialRow oldImpulse v) (upperLimitRow (limitBias c s invH useBias) swingMass swingAxis oldImpulse m v)
-
--- Point, with its bias (`pointBias`: softened where the call has bias); worked with fixed rotation too.
-unfoldable pub pointRow : SoftBias3 → Vec3 → Vec3 → Vec3 → InvMasses → Velocities → Row3
-pointRow s rA rB oldImpulse m v =
-    let cdot = pointCdot rA rB v in
-    let b = solve3 (pointMass m rA rB) (add cdot (s .bias)) in
-    let impulse = softImpulse3 s b oldImpulse in
-    row3 (add oldImpulse impulse) (applyPoint m rA rB impulse v)
-
--- ---- prepare
+-- ==== Prepare
 
 abbrev pub limitAxis : Vec3 → Float → LimitAxis
 limitAxis axis mass = record { axis = axis; mass = mass }
-
--- what prepare stores into the joint, apart from impulses that it clears
-abbrev pub withPrepared : SphericalJoint → ℤ → ℤ → Transform → Transform → Vec3 → LimitAxis → LimitAxis → Matrix3 → Softness → SphericalJoint
-withPrepared j indexA indexB frameA frameB deltaCenter swing twist rotationMass springSoftness =
-    record {
-      «linear_impulse» = j .«linear_impulse»;
-      «spring_impulse» = j .«spring_impulse»;
-      «motor_impulse» = j .«motor_impulse»;
-      «lower_twist_impulse» = j .«lower_twist_impulse»;
-      «upper_twist_impulse» = j .«upper_twist_impulse»;
-      «swing_impulse» = j .«swing_impulse»;
-      hertz = j .hertz;
-      «damping_ratio» = j .«damping_ratio»;
-      «max_motor_torque» = j .«max_motor_torque»;
-      «motor_velocity» = j .«motor_velocity»;
-      «lower_twist_angle» = j .«lower_twist_angle»;
-      «upper_twist_angle» = j .«upper_twist_angle»;
-      «cone_angle» = j .«cone_angle»;
-      «target_rotation» = j .«target_rotation»;
-      «index_a» = indexA;
-      «index_b» = indexB;
-      «frame_a» = frameA;
-      «frame_b» = frameB;
-      «delta_center» = deltaCenter;
-      «swing_axis» = swing .axis;
-      «twist_jacobian» = twist .axis;
-      «rotation_mass» = rotationMass;
-      «swing_mass» = swing .mass;
-      «twist_mass» = twist .mass;
-      «spring_softness» = springSoftness;
-      «enable_spring» = j .«enable_spring»;
-      «enable_motor» = j .«enable_motor»;
-      «enable_cone_limit» = j .«enable_cone_limit»;
-      «enable_twist_limit» = j .«enable_twist_limit»;
-    }
 
 -- swing values are stored only if the cone is on; older ones stay. The axis may be zero.
 unfoldable pub prepareSwing : SphericalJoint → Matrix3 → Vec3 → Vec3 → LimitAxis
@@ -182,31 +89,40 @@ prepareTwist j invInertiaSum quatA quatB coneAxis twistAxis =
 unfoldable pub prepareRotationMass : Bool → Matrix3 → Matrix3
 prepareRotationMass fixedRotation invInertiaSum = cond (not fixedRotation) (invertMatrix invInertiaSum) mat3Zero
 
--- impulses are cleared only if warm starting is off
+-- document 01's prepare: impulses are cleared only if warm starting is off
 unfoldable pub keepImpulses : SphericalJoint → Bool → SphericalJoint
 keepImpulses j enableWarmStarting = cond (not enableWarmStarting) (withImpulses j vec3Zero vec3Zero vec3Zero zero zero zero) j
-
--- ---- the stages
 
 abbrev pub sphericalPrepared : JointBase → SphericalJoint → SphericalPrepared
 sphericalPrepared base joint = record { base = base; joint = joint }
 
--- the cone axis is the z-axis of frame A, the twist axis that of frame B
-unfoldable pub prepareSpherical : JointBase → SphericalJoint → Float → Bool → BodyRecord → BodyRecord → SphericalPrepared
-prepareSpherical base j h enableWarmStarting bodyA bodyB =
+-- document 01's prepare. The cone axis is the z-axis of frame A, the twist axis that of frame B
+unfoldable pub prepareSpherical : JointBase → SphericalJoint → Float → Bool → Vec3 → BodyRecord → BodyRecord → SphericalPrepared
+prepareSpherical base j h enableWarmStarting deltaCenter bodyA bodyB =
     let next = prepareBase base bodyA bodyB in
     let invInertiaSum = addMm (next .«inv_i_a») (next .«inv_i_b») in
     let frameA = prepareFrame bodyA (base .«local_frame_a») in
     let frameB = prepareFrame bodyB (base .«local_frame_b») in
-    let deltaCenter = subPos (bodyB .center) (bodyA .center) in
     let coneAxis = rotateVector (frameA .q) vec3AxisZ in
     let twistAxis = rotateVector (frameB .q) vec3AxisZ in
     let swing = prepareSwing j invInertiaSum coneAxis twistAxis in
     let twist = prepareTwist j invInertiaSum (frameA .q) (frameB .q) coneAxis twistAxis in
-    let rotationMass = prepareRotationMass (next .«fixed_rotation») invInertiaSum in
-    let springSoftness = makeSoft (j .hertz) (j .«damping_ratio») h in
-    let out = withPrepared j (awakeIndex bodyA) (awakeIndex bodyB) frameA frameB deltaCenter swing twist rotationMass springSoftness in
+    let made : Made =
+    record {
+      «frame_a» = frameA;
+      «frame_b» = frameB;
+      «delta_center» = deltaCenter;
+      «swing_axis» = swing .axis;
+      «twist_jacobian» = twist .axis;
+      «rotation_mass» = prepareRotationMass (next .«fixed_rotation») invInertiaSum;
+      «swing_mass» = swing .mass;
+      «twist_mass» = twist .mass;
+      «spring_softness» = makeSoft (j .hertz) (j .«damping_ratio») h;
+    } in
+    let out = built (writtenOf j) (settingsOf j) (awakeIndex bodyA) (awakeIndex bodyB) made in
     sphericalPrepared next (keepImpulses out enableWarmStarting)
+
+-- ==== Warm start
 
 -- The swing impulse is subtracted. Of a state only the velocities and the delta rotation are read.
 unfoldable pub warmStartSpherical : JointBase → SphericalJoint → BodyState → BodyState → Velocities
@@ -218,53 +134,138 @@ warmStartSpherical base j stateA stateB =
     let angularImpulse = mulAdd angularImpulse (j .«lower_twist_impulse» ⊖ j .«upper_twist_impulse») (j .«twist_jacobian») in
     applyWarm (invMassesOf base) rA rB (j .«linear_impulse») angularImpulse (velocitiesOf stateA stateB)
 
+-- ==== Rows
+
+-- Each takes the fields that it reads. The first parameter of a row that can be skipped says whether it is worked; if not, it leaves all as it was.
+
+-- Spring. The error is minus the rotation to the target, turned into the world; the softness is the spring's own, with or without bias.
+unfoldable pub springRow : Bool → RelativeRotation → Quat → Softness → Matrix3 → Vec3 → InvMasses → Velocities → Row3
+springRow worked rotation targetRotation springSoftness rotationMass oldImpulse m v =
+    let c = neg (rotateVector (rotation .«quat_a») (deltaQuatToRotation (rotation .«rel_q») targetRotation)) in
+    cond (not worked) (row3 oldImpulse v) (angularRow (softBias3 springSoftness c) rotationMass oldImpulse m v)
+
+-- the motor's impulse before it is scaled
+unfoldable pub motorSum : Vec3 → Matrix3 → Vec3 → Velocities → Vec3
+motorSum motorVelocity mass oldImpulse v =
+    let cdot = sub (v .«w_b») (v .«w_a») in
+    let lambda = neg (mulMv mass (sub cdot motorVelocity)) in
+    add oldImpulse lambda
+
+-- the impulse, scaled where it is longer than maxImpulse
+unfoldable pub limitLength : Vec3 → Float → Vec3
+limitLength impulse maxImpulse =
+    let len = length impulse in
+    cond (gt len maxImpulse) (mulSv (maxImpulse ⊘ len) impulse) impulse
+
+-- Motor: its impulse is a vector, scaled to the length max_motor_torque × h where it is longer (revolute's is a number, clamped).
+unfoldable pub motorRow : Bool → Vec3 → Float → Float → Matrix3 → Vec3 → InvMasses → Velocities → Row3
+motorRow worked motorVelocity maxMotorTorque h rotationMass oldImpulse m v =
+    let impulse = limitLength (motorSum motorVelocity rotationMass oldImpulse v) (maxMotorTorque ⊗ h) in
+    cond (not worked) (row3 oldImpulse v) (row3 impulse (applyAngular m (sub impulse oldImpulse) v))
+
+-- Cone: an upper limit, about the swing axis. The gap is the cone's angle less the swing angle.
+unfoldable pub coneRow : Bool → Float → Float → Softness → Float → Bool → Float → Vec3 → Float → InvMasses → Velocities → AxialRow
+coneRow worked swingAngle coneAngle s invH useBias swingMass swingAxis oldImpulse m v =
+    let c = coneAngle ⊖ swingAngle in
+    cond (not worked) (axialRow oldImpulse v) (upperLimitRow (limitBias c s invH useBias) swingMass swingAxis oldImpulse m v)
+
+-- Point, with its bias (`pointBias`: softened where the call has bias); worked with fixed rotation too.
+unfoldable pub pointRow : SoftBias3 → Vec3 → Vec3 → Vec3 → InvMasses → Velocities → Row3
+pointRow s rA rB oldImpulse m v =
+    let cdot = pointCdot rA rB v in
+    let b = solve3 (pointMass m rA rB) (add cdot (s .bias)) in
+    let impulse = softImpulse3 s b oldImpulse in
+    row3 (add oldImpulse impulse) (applyPoint m rA rB impulse v)
+
+-- ==== Solve
+
+-- where frame B stands relative to frame A. The second quaternion is not flipped (revolute's and weld's are)
+unfoldable pub jointRotation : SphericalJoint → BodyState → BodyState → RelativeRotation
+jointRotation j stateA stateB = relativeRotation (stateA .«delta_rotation») (j .«frame_a» .q) (stateB .«delta_rotation») (j .«frame_b» .q)
+
+-- The rows at the fields of the joint and the states. All but the point row are skipped when rotation is fixed.
+
+unfoldable pub solveSpring : Bool → SphericalJoint → RelativeRotation → InvMasses → Velocities → Row3
+solveSpring fixedRotation j rotation m v =
+    springRow (isWorked (j .«enable_spring») fixedRotation) rotation (j .«target_rotation») (j .«spring_softness») (j .«rotation_mass»)
+    (j .«spring_impulse») m v
+
+unfoldable pub solveMotor : Bool → SphericalJoint → Float → InvMasses → Velocities → Row3
+solveMotor fixedRotation j h m v =
+    motorRow (isWorked (j .«enable_motor») fixedRotation) (j .«motor_velocity») (j .«max_motor_torque») h (j .«rotation_mass») (j .«motor_impulse») m v
+
+-- what the rows of the joint's twist limit are worked with, at a twist angle
+abbrev pub twistLimit : SphericalJoint → Float → TwistLimit
+twistLimit j angle =
+    record {
+      angle = angle;
+      «lower_angle» = j .«lower_twist_angle»;
+      «upper_angle» = j .«upper_twist_angle»;
+      mass = j .«twist_mass»;
+      axis = j .«twist_jacobian»;
+      «lower_impulse» = j .«lower_twist_impulse»;
+      «upper_impulse» = j .«upper_twist_impulse»;
+    }
+
+unfoldable pub solveLimits : Bool → Softness → SphericalJoint → Float → Float → Bool → InvMasses → Velocities → LimitRows
+solveLimits fixedRotation softness j angle invH useBias m v =
+    twistLimitRows (isWorked (j .«enable_twist_limit») fixedRotation) (twistLimit j angle) softness invH useBias m v
+
+unfoldable pub solveCone : Bool → Softness → SphericalJoint → Float → Float → Bool → InvMasses → Velocities → AxialRow
+solveCone fixedRotation softness j swingAngle invH useBias m v =
+    coneRow (isWorked (j .«enable_cone_limit») fixedRotation) swingAngle (j .«cone_angle») softness invH useBias (j .«swing_mass») (j .«swing_axis»)
+    (j .«swing_impulse») m v
+
+-- the point row's bias, at the two anchors
+unfoldable pub solveBias : Softness → SphericalJoint → Vec3 → Vec3 → BodyState → BodyState → Bool → SoftBias3
+solveBias softness j rA rB stateA stateB useBias =
+    pointBias useBias softness rA rB (stateA .«delta_position») (stateB .«delta_position») (j .«delta_center»)
+
+unfoldable pub solvePoint : Softness → SphericalJoint → BodyState → BodyState → Bool → InvMasses → Velocities → Row3
+solvePoint softness j stateA stateB useBias m v =
+    let rA = rotateVector (stateA .«delta_rotation») (j .«frame_a» .p) in
+    let rB = rotateVector (stateB .«delta_rotation») (j .«frame_b» .p) in
+    pointRow (solveBias softness j rA rB stateA stateB useBias) rA rB (j .«linear_impulse») m v
+
 abbrev pub sphericalSolved : SphericalJoint → Velocities → SphericalSolved
 sphericalSolved joint velocities = record { joint = joint; velocities = velocities }
 
--- Document 01's rows of a spherical solve, in order: spring, motor, lower and upper twist, cone, point. The second quaternion is not flipped.
+-- document 01's rows of a spherical solve, in order: spring, motor, lower and upper twist, cone, point
 unfoldable pub solveSpherical : JointBase → SphericalJoint → Float → Float → BodyState → BodyState → Bool → SphericalSolved
 solveSpherical base j h invH stateA stateB useBias =
     let m = invMassesOf base in
     let fixedRotation = base .«fixed_rotation» in
-    let s = base .«constraint_softness» in
-    let rotation = relativeRotation (stateA .«delta_rotation») (j .«frame_a» .q) (stateB .«delta_rotation») (j .«frame_b» .q) in
+    let softness = base .«constraint_softness» in
+    let rotation = jointRotation j stateA stateB in
     let relQ = rotation .«rel_q» in
-    let spring =
-    springRow (isWorked (j .«enable_spring») fixedRotation) rotation (j .«target_rotation») (j .«spring_softness»)
-    (j .«rotation_mass») (j .«spring_impulse») m (velocitiesOf stateA stateB) in
-    let motor =
-    motorRow (isWorked (j .«enable_motor») fixedRotation) (j .«motor_velocity») (j .«max_motor_torque») h
-    (j .«rotation_mass») (j .«motor_impulse») m (spring .velocities) in
-    let twist =
-    twistLimitRows (isWorked (j .«enable_twist_limit») fixedRotation) (getTwistAngle relQ) (j .«lower_twist_angle») (j .«upper_twist_angle») s invH useBias
-    (j .«twist_mass») (j .«twist_jacobian») (j .«lower_twist_impulse») (j .«upper_twist_impulse») m (motor .velocities) in
-    let cone =
-    coneRow (isWorked (j .«enable_cone_limit») fixedRotation) (getSwingAngle relQ) (j .«cone_angle») s invH useBias
-    (j .«swing_mass») (j .«swing_axis») (j .«swing_impulse») m (twist .velocities) in
-    let rA = rotateVector (stateA .«delta_rotation») (j .«frame_a» .p) in
-    let rB = rotateVector (stateB .«delta_rotation») (j .«frame_b» .p) in
-    let bias = pointBias useBias s rA rB (stateA .«delta_position») (stateB .«delta_position») (j .«delta_center») in
-    let point = pointRow bias rA rB (j .«linear_impulse») m (cone .velocities) in
+    let spring = solveSpring fixedRotation j rotation m (velocitiesOf stateA stateB) in
+    let motor = solveMotor fixedRotation j h m (spring .velocities) in
+    let limits = solveLimits fixedRotation softness j (getTwistAngle relQ) invH useBias m (motor .velocities) in
+    let cone = solveCone fixedRotation softness j (getSwingAngle relQ) invH useBias m (limits .velocities) in
+    let point = solvePoint softness j stateA stateB useBias m (cone .velocities) in
     sphericalSolved
-    (withImpulses j (point .impulse) (spring .impulse) (motor .impulse) (twist .«lower_impulse») (twist .«upper_impulse») (cone .impulse))
+    (withImpulses j (point .impulse) (spring .impulse) (motor .impulse) (limits .«lower_impulse») (limits .«upper_impulse») (cone .impulse))
     (point .velocities)
 
--- ---- the stages over a joint of any kind: one whose case is not Spherical gets number 1, place 0, and nothing is altered
+-- ==== The stages over a joint of any kind
 
--- of the context the sub-step and the switch of warm starting
+-- One whose case is not Spherical gets number 1, place 0, and nothing is altered.
+
+-- of the context h and enable_warm_starting
 unfoldable pub prepareSphericalJoint : JointSim → StepContext → BodyRecord → BodyRecord → Prepared
 prepareSphericalJoint sim context bodyA bodyB =
     Option·elim (asSpherical (sim .«union_»)) (notPrepared sim) λ j.
-    let r = prepareSpherical (sim .base) j (context .h) (context .«enable_warm_starting») bodyA bodyB in
+    let deltaCenter = subPos (bodyB .center) (bodyA .center) in
+    let r = prepareSpherical (sim .base) j (context .h) (context .«enable_warm_starting») deltaCenter bodyA bodyB in
     prepared (jointSim (r .base) (Spherical (r .joint)))
 
 unfoldable pub warmStartSphericalJoint : JointSim → BodyState → BodyState → WarmStarted
 warmStartSphericalJoint sim stateA stateB =
     Option·elim (asSpherical (sim .«union_»)) (notWarmStarted sim stateA stateB) λ j. warmStarted sim (warmStartSpherical (sim .base) j stateA stateB)
 
--- of the context the sub-step and its inverse
+-- of the context h and inv_h
 unfoldable pub solveSphericalJoint : JointSim → StepContext → BodyState → BodyState → Bool → Solved
 solveSphericalJoint sim context stateA stateB useBias =
     Option·elim (asSpherical (sim .«union_»)) (notSolved sim stateA stateB) λ j.
     let r = solveSpherical (sim .base) j (context .h) (context .«inv_h») stateA stateB useBias in
-    solved (jointSim (sim .base) (Spherical (r .joint))) (r .velocities)
+    solved (afterStage sim (Spherical (r .joint))) (r .velocities)

@@ -5,13 +5,18 @@ ghost use Rattle.records.specs.Joint.{jointSim};
 ghost use Rattle.records.specs.declared.joint.JointUnion.the-variants.{Spherical};
 ghost use Rattle.spherical.specs.Spherical as D;
 use crate::prepare::prepare_spherical;
-use crate::stages::solve_spherical;
-use crate::stages::warm_start_spherical;
+use crate::solve::solve_spherical;
+use crate::warm_start::warm_start_spherical;
 use constraint::answer::Prepared;
 use constraint::answer::Solved;
-use constraint::answer::WRONG_KIND;
 use constraint::answer::WarmStarted;
-use constraint::velocity::velocities_of;
+use constraint::answer::prepare_done;
+use constraint::answer::prepare_refused;
+use constraint::answer::solve_done;
+use constraint::answer::solve_refused;
+use constraint::answer::warm_start_done;
+use constraint::answer::warm_start_refused;
+use math_functions::transform::sub_pos;
 use records::body::BodyRecord;
 use records::body::BodyState;
 use records::joint::JointBase;
@@ -22,7 +27,8 @@ use solver::StepContext;
 
 mod prepare;
 mod rows;
-mod stages;
+mod solve;
+mod warm_start;
 
 // A joint of this kind.
 fn spherical_sim(base: JointBase, joint: SphericalJoint) -> JointSim
@@ -44,26 +50,20 @@ pub fn prepare_spherical_joint(
 {
     let u = joint.union_;
     let JointUnion::Spherical(k) = u else {
-        return Prepared {
-            number: WRONG_KIND,
-            place: 0,
-            joint,
-        };
+        return prepare_refused(joint);
     };
+    let delta_center = sub_pos(body_b.center, body_a.center);
     let next = prepare_spherical(
         joint.base,
         k,
         context.h,
         context.enable_warm_starting,
+        delta_center,
         body_a,
         body_b,
     );
     joint = spherical_sim(next.base, next.joint);
-    Prepared {
-        number: 0,
-        place: 0,
-        joint,
-    }
+    prepare_done(joint)
 }
 
 // The joint is read only.
@@ -76,21 +76,10 @@ pub fn warm_start_spherical_joint(
 {
     let u = joint.union_;
     let JointUnion::Spherical(k) = u else {
-        let velocities = velocities_of(state_a, state_b);
-        return WarmStarted {
-            number: WRONG_KIND,
-            place: 0,
-            joint,
-            velocities,
-        };
+        return warm_start_refused(joint, state_a, state_b);
     };
     let velocities = warm_start_spherical(joint.base, k, state_a, state_b);
-    WarmStarted {
-        number: 0,
-        place: 0,
-        joint,
-        velocities,
-    }
+    warm_start_done(joint, velocities)
 }
 
 pub fn solve_spherical_joint(
@@ -104,13 +93,7 @@ pub fn solve_spherical_joint(
 {
     let u = joint.union_;
     let JointUnion::Spherical(k) = u else {
-        let velocities = velocities_of(state_a, state_b);
-        return Solved {
-            number: WRONG_KIND,
-            place: 0,
-            joint,
-            velocities,
-        };
+        return solve_refused(joint, state_a, state_b);
     };
     let next = solve_spherical(
         joint.base,
@@ -123,10 +106,5 @@ pub fn solve_spherical_joint(
     );
     let velocities = next.velocities;
     joint = spherical_sim(joint.base, next.joint);
-    Solved {
-        number: 0,
-        place: 0,
-        joint,
-        velocities,
-    }
+    solve_done(joint, velocities)
 }

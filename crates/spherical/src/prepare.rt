@@ -9,7 +9,6 @@ use math_functions::matrix::add_mm;
 use math_functions::matrix::invert_matrix;
 use math_functions::quat::inv_mul_quat;
 use math_functions::quat::rotate_vector;
-use math_functions::transform::sub_pos;
 use math_functions::types::MAT3_ZERO;
 use math_functions::types::Matrix3;
 use math_functions::types::Quat;
@@ -127,10 +126,11 @@ pub fn prepare_spherical(
     mut joint: SphericalJoint,
     h: f32,
     enable_warm_starting: bool,
+    delta_center: Vec3,
     body_a: BodyRecord,
     body_b: BodyRecord,
 ) -> SphericalPrepared
-    ensures { λ r. ⌜ r ≡ D.prepareSpherical base joint h «enable_warm_starting» «body_a» «body_b» ⌝ }
+    ensures { λ r. ⌜ r ≡ D.prepareSpherical base joint h «enable_warm_starting» «delta_center» «body_a» «body_b» ⌝ }
 {
     let frame_a = prepare_frame(body_a, base.local_frame_a);
     let frame_b = prepare_frame(body_b, base.local_frame_b);
@@ -146,7 +146,7 @@ pub fn prepare_spherical(
     joint.index_b = awake_index(body_b);
     joint.frame_a = frame_a;
     joint.frame_b = frame_b;
-    joint.delta_center = sub_pos(body_b.center, body_a.center);
+    joint.delta_center = delta_center;
     joint.swing_axis = swing_axis;
     joint.swing_mass = swing.mass;
     joint.twist_jacobian = twist_jacobian;

@@ -64,6 +64,15 @@ pub fn spring_row(
     angular_row(soft_bias3(softness, c), mass, old_impulse, m, v)
 }
 
+// The motor's impulse before it is scaled.
+fn motor_sum(motor_velocity: Vec3, mass: Matrix3, old_impulse: Vec3, v: Velocities) -> Vec3
+    ensures { λ r. ⌜ r ≡ D.motorSum «motor_velocity» mass «old_impulse» v ⌝ }
+{
+    let cdot = sub(v.w_b, v.w_a);
+    let lambda = neg(mul_mv(mass, sub(cdot, motor_velocity)));
+    add(old_impulse, lambda)
+}
+
 // What scales an impulse of the length len to max_impulse where it is longer, and else to itself.
 fn limit_scale(len: f32, max_impulse: f32) -> f32
     ensures { λ r. ⌜ r ≡ Steps.limitScale len «max_impulse» ⌝ }
@@ -102,9 +111,8 @@ pub fn motor_row(
             velocities: v,
         };
     }
-    let cdot = sub(v.w_b, v.w_a);
-    let lambda = neg(mul_mv(mass, sub(cdot, motor_velocity)));
-    let impulse = limit_length(add(old_impulse, lambda), max_motor_torque * h);
+    let sum = motor_sum(motor_velocity, mass, old_impulse, v);
+    let impulse = limit_length(sum, max_motor_torque * h);
     let velocities = apply_angular(m, sub(impulse, old_impulse), v);
     Row3 {
         impulse,

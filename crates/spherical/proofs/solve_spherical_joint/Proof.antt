@@ -3,18 +3,23 @@ use mathlib.Core.Option.{Option·elim}
 use borrow.Author.Needs.{needs}
 use Rattle.records.proofs.Cases.{not-spherical}
 use Rattle.spherical.specs.Spherical.{solveSphericalJoint}
-use Rattle.spherical.specs.Facts.{solve-refused}
+use Rattle.spherical.proofs.Facts.{solve-refused}
 use Rattle.spherical.proofs.solve_spherical_joint.Statement.{statement}
 use Rattle.spherical.proofs.solve_spherical_joint.Tie as tie
 
 returns : tie.Need-returns
 returns c =
     let a = c .before .before .args in
-    rw (solve-refused (a .joint) (a .context) (a .state-a) (a .state-b) (a .use-bias) (not-spherical (a .joint .«union_») (c .before .match .keys2)), ← (c .velocities-of .ensures))
+    let other = not-spherical (a .joint .«union_») (c .before .match .keys2) in
+    rw (solve-refused (a .joint) (a .context) (a .state-a) (a .state-b) (a .use-bias) other) (c .solve-refused .ensures)
 
 returns-2 : tie.Need-returns-2
 unfolding solveSphericalJoint Option·elim
-returns-2 c = rw (c .before .before .before .before .u .given .1, ← (c .before .before .solve-spherical .ensures), ← (c .spherical-sim .ensures))
+returns-2 c = rw (
+  c .before .before .before .before .before .u .given .1,
+  ← (c .before .before .before .solve-spherical .ensures),
+  ← (c .before .spherical-sim .ensures),
+) (c .solve-done .ensures)
 
 pub solve-spherical-joint-spec : {M : Type 1} → statement M
-solve-spherical-joint-spec = tie.close (tie.spec (λ c. search needs) (λ c κs. tt) returns (λ c κs. tt) (λ c κs. tt) returns-2)
+solve-spherical-joint-spec = tie.close (tie.spec (λ c. search needs) (λ c κs. tt) returns (λ c κs. tt) (λ c κs. tt) (λ c κs. tt) returns-2)

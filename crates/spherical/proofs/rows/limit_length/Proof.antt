@@ -1,4 +1,4 @@
--- `rows::limit_length` equals its definition, which scales only an impulse that is too long: by one, an impulse is scaled to itself (`one-times`). Assumes nothing.
+-- `rows::limit_length` equals its definition, which scales an impulse only if it is too long: scaled by one, it stays (`one-times`). Assumes nothing.
 use mathlib.Core.Path.{_≡_, refl}
 use mathlib.Core.Bool.{Bool, true, false, cond}
 use lib.Ieee.{Float, binary32, fits}

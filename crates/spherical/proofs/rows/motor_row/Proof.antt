@@ -9,16 +9,12 @@ returns c = rw (c .if1 .taken)
 returns-2 : tie.Need-returns-2
 unfolding motorRow
 returns-2 c = rw (
-  ← (c .before .before .before .before .before .before .before .sub .ensures),
-  ← (c .before .before .before .before .before .before .sub2 .ensures),
-  ← (c .before .before .before .before .before .mul-mv .ensures),
-  ← (c .before .before .before .before .neg .ensures),
-  ← (c .before .before .before .add .ensures),
+  ← (c .before .before .before .motor-sum .ensures),
   ← (c .before .before .limit-length .ensures),
-  ← (c .before .sub3 .ensures),
+  ← (c .before .sub .ensures),
   ← (c .apply-angular .ensures),
-  c .before .before .before .before .before .before .before .before .if1 .left,
+  c .before .before .before .before .if1 .left,
 )
 
 pub motor-row-spec : {M : Type 1} → statement M
-motor-row-spec = tie.close (tie.spec returns (λ c κs. tt) (λ c κs. tt) (λ c κs. tt) (λ c κs. tt) (λ c κs. tt) (λ c κs. tt) (λ c κs. tt) (λ c κs. tt) returns-2)
+motor-row-spec = tie.close (tie.spec returns (λ c κs. tt) (λ c κs. tt) (λ c κs. tt) (λ c κs. tt) returns-2)

@@ -3,6 +3,26 @@ use Rattle.spherical.specs.Spherical.{pointRow}
 use Rattle.spherical.proofs.rows.point_row.Statement.{statement}
 use Rattle.spherical.proofs.rows.point_row.Tie as tie
 
-pub point-row-spec : {M : Type 1} → statement M
+returns : tie.Need-returns
 unfolding pointRow pointMass
-point-row-spec = tie.close (tie.spec (λ c κs. tt) (λ c κs. tt) (λ c κs. tt) (λ c κs. tt) (λ c κs. tt) (λ c κs. tt) (λ c κs. tt) (λ c κs. tt) (λ c κs. tt) (λ c κs. tt) (λ c κs. tt) (λ c κs. tt) (λ c κs. tt) (λ c κs. tt) (λ c κs. tt) (λ c. rw (← (c .before .before .before .before .before .before .before .before .before .before .before .before .before .before .before .point-cdot .ensures), ← (c .before .before .before .before .before .before .before .before .before .before .before .before .before .before .skew .ensures), ← (c .before .before .before .before .before .before .before .before .before .before .before .before .before .skew2 .ensures), ← (c .before .before .before .before .before .before .before .before .before .before .before .before .mul-mm .ensures), ← (c .before .before .before .before .before .before .before .before .before .before .before .mul-mm2 .ensures), ← (c .before .before .before .before .before .before .before .before .before .before .mul-mm3 .ensures), ← (c .before .before .before .before .before .before .before .before .before .mul-mm4 .ensures), ← (c .before .before .before .before .before .before .before .before .add-mm .ensures), ← (c .before .before .before .before .before .before .before .negate-mat3 .ensures), ← (c .before .before .before .before .before .add-mass .ensures), ← (c .before .before .before .before .add .ensures), ← (c .before .before .before .solve3 .ensures), ← (c .before .before .soft-impulse3 .ensures), ← (c .before .add2 .ensures), ← (c .apply-point .ensures))))
+returns c = rw (
+  ← (c .before .before .before .before .before .before .before .before .before .before .before .before .before .before .before .point-cdot .ensures),
+  ← (c .before .before .before .before .before .before .before .before .before .before .before .before .before .before .skew .ensures),
+  ← (c .before .before .before .before .before .before .before .before .before .before .before .before .before .skew2 .ensures),
+  ← (c .before .before .before .before .before .before .before .before .before .before .before .before .mul-mm .ensures),
+  ← (c .before .before .before .before .before .before .before .before .before .before .before .mul-mm2 .ensures),
+  ← (c .before .before .before .before .before .before .before .before .before .before .mul-mm3 .ensures),
+  ← (c .before .before .before .before .before .before .before .before .before .mul-mm4 .ensures),
+  ← (c .before .before .before .before .before .before .before .before .add-mm .ensures),
+  ← (c .before .before .before .before .before .before .before .negate-mat3 .ensures),
+  ← (c .before .before .before .before .before .add-mass .ensures),
+  ← (c .before .before .before .before .add .ensures),
+  ← (c .before .before .before .solve3 .ensures),
+  ← (c .before .before .soft-impulse3 .ensures),
+  ← (c .before .add2 .ensures),
+  ← (c .apply-point .ensures),
+)
+
+pub point-row-spec : {M : Type 1} → statement M
+point-row-spec = tie.close (tie.spec (λ c κs. tt) (λ c κs. tt) (λ c κs. tt) (λ c κs. tt) (λ c κs. tt) (λ c κs. tt) (λ c κs. tt) (λ c κs. tt)
+    (λ c κs. tt) (λ c κs. tt) (λ c κs. tt) (λ c κs. tt) (λ c κs. tt) (λ c κs. tt) (λ c κs. tt) returns)

@@ -1,6 +1,6 @@
 use Rattle.spherical.specs.Spherical.{warmStartSpherical}
-use Rattle.spherical.proofs.stages.warm_start_spherical.Statement.{statement}
-use Rattle.spherical.proofs.stages.warm_start_spherical.Tie as tie
+use Rattle.spherical.proofs.warm_start.warm_start_spherical.Statement.{statement}
+use Rattle.spherical.proofs.warm_start.warm_start_spherical.Tie as tie
 
 returns : tie.Need-returns
 unfolding warmStartSpherical

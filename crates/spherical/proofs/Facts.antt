@@ -1,5 +1,5 @@
--- What holds of the spherical stages for all inputs: which impulses are never negative, which fields a solve may change, what a stage reads, and what a call on a
--- joint leaves. Assumes nothing.
+-- What holds of the spherical stages for all inputs: which impulses are never negative, which fields a solve may change, what a stage reads, and what
+-- a call on a joint leaves. Assumes nothing.
 use mathlib.Core.Path.{_≡_, refl}
 use mathlib.Core.Bool.{Bool, true, false, cond}
 use Prim.Native.Nat.{ℕ}
@@ -15,6 +15,7 @@ use Rattle.records.specs.declared.joint.JointBase.{JointBase}
 use Rattle.records.specs.declared.joint.JointSim.{JointSim}
 use Rattle.records.specs.Joint.{asSpherical, isSpherical}
 use Rattle.records.specs.declared.joint.SphericalJoint.{SphericalJoint}
+use Rattle.records.specs.Spherical.{withIndices}
 use Rattle.constraint.specs.declared.velocity.Velocities.{Velocities}
 use Rattle.constraint.specs.declared.velocity.InvMasses.{InvMasses}
 use Rattle.constraint.specs.declared.answer.Prepared.{Prepared}
@@ -23,38 +24,39 @@ use Rattle.constraint.specs.declared.answer.Solved.{Solved}
 use Rattle.constraint.specs.Velocity.{velocitiesOf}
 use Rattle.constraint.specs.Prepare.{prepareBase}
 use Rattle.constraint.specs.Answer.{notPrepared, notWarmStarted, notSolved}
-use Rattle.constraint.specs.Facts.{NonNegative, worked, upperLimitRow-nonNegative, twist-lower-nonNegative, twist-upper-nonNegative}
-use Rattle.constraint.specs.Facts.{AtMostOne, zero-at-most, one-at-most, BothOfKind, always, kept, numbered, refused, case-kept, accepted, both-of-kind}
-use Rattle.spherical.specs.Spherical.{withImpulses, coneRow, sphericalSolved, warmStartSpherical, solveSpherical, prepareSpherical}
+use Rattle.constraint.specs.Claims.{NonNegative, AtMostOne, BothOfKind}
+use Rattle.constraint.proofs.Facts.{worked, upperLimitRow-nonNegative, twist-lower-nonNegative, twist-upper-nonNegative}
+use Rattle.constraint.proofs.Facts.{zero-at-most, one-at-most, always, kept, numbered, refused, case-kept, accepted, both-of-kind}
+use Rattle.spherical.specs.Spherical.{withImpulses, coneRow, jointRotation, solveSpring, solveMotor, solveLimits, solveCone, solveBias, solvePoint}
+use Rattle.spherical.specs.Spherical.{prepareSpherical, warmStartSpherical, sphericalSolved, solveSpherical}
 use Rattle.spherical.specs.Spherical.{prepareSphericalJoint, warmStartSphericalJoint, solveSphericalJoint}
+use Rattle.spherical.specs.Claims.{LimitImpulsesNonNegative}
 
 -- ---- limits
 
-pub coneRow-nonNegative : (swingAngle coneAngle : Float) (s : Softness) (invH : Float) (useBias : Bool) (mass : Float) (axis : Vec3) (old : Float) (m : InvMasses) (v : Velocities) → NonNegative (coneRow true swingAngle coneAngle s invH useBias mass axis old m v .impulse)
+pub coneRow-nonNegative : (swingAngle coneAngle : Float) (s : Softness) (invH : Float) (useBias : Bool) (mass : Float) (axis : Vec3) (old : Float)
+    (m : InvMasses) (v : Velocities) → NonNegative (coneRow true swingAngle coneAngle s invH useBias mass axis old m v .impulse)
 unfolding coneRow
 coneRow-nonNegative swingAngle coneAngle s invH useBias mass axis old m v = upperLimitRow-nonNegative _ _ _ _ _ _
 
--- what is said of the limits: `next` is the joint `j` after a solve
-pub record LimitsNonNegative (j next : SphericalJoint) : Type 0 where
-  pub lower-twist : j .«enable_twist_limit» ≡ true → NonNegative (next .«lower_twist_impulse»)
-  pub upper-twist : j .«enable_twist_limit» ≡ true → NonNegative (next .«upper_twist_impulse»)
-  pub swing : j .«enable_cone_limit» ≡ true → NonNegative (next .«swing_impulse»)
-
 module _ (base : JointBase) (j : SphericalJoint) (h invH : Float) (stateA stateB : BodyState) (useBias : Bool) where
   -- After a solve with rotation not fixed each limit that is on has impulses that are zero or positive, and no NaN.
-  pub solve-lower-twist-nonNegative : base .«fixed_rotation» ≡ false → j .«enable_twist_limit» ≡ true → NonNegative (solveSpherical base j h invH stateA stateB useBias .joint .«lower_twist_impulse»)
-  unfolding solveSpherical
-  solve-lower-twist-nonNegative free on = rw (worked on free) (twist-lower-nonNegative _ _ _ _ _ _ _ _ _ _ _ _)
+  pub solve-lower-twist-nonNegative : base .«fixed_rotation» ≡ false → j .«enable_twist_limit» ≡ true
+      → NonNegative (solveSpherical base j h invH stateA stateB useBias .joint .«lower_twist_impulse»)
+  unfolding solveSpherical solveLimits
+  solve-lower-twist-nonNegative free on = rw (worked on free) (twist-lower-nonNegative _ _ _ _ _ _)
 
-  pub solve-upper-twist-nonNegative : base .«fixed_rotation» ≡ false → j .«enable_twist_limit» ≡ true → NonNegative (solveSpherical base j h invH stateA stateB useBias .joint .«upper_twist_impulse»)
-  unfolding solveSpherical
-  solve-upper-twist-nonNegative free on = rw (worked on free) (twist-upper-nonNegative _ _ _ _ _ _ _ _ _ _ _ _)
+  pub solve-upper-twist-nonNegative : base .«fixed_rotation» ≡ false → j .«enable_twist_limit» ≡ true
+      → NonNegative (solveSpherical base j h invH stateA stateB useBias .joint .«upper_twist_impulse»)
+  unfolding solveSpherical solveLimits
+  solve-upper-twist-nonNegative free on = rw (worked on free) (twist-upper-nonNegative _ _ _ _ _ _)
 
-  pub solve-swing-nonNegative : base .«fixed_rotation» ≡ false → j .«enable_cone_limit» ≡ true → NonNegative (solveSpherical base j h invH stateA stateB useBias .joint .«swing_impulse»)
-  unfolding solveSpherical
+  pub solve-swing-nonNegative : base .«fixed_rotation» ≡ false → j .«enable_cone_limit» ≡ true
+      → NonNegative (solveSpherical base j h invH stateA stateB useBias .joint .«swing_impulse»)
+  unfolding solveSpherical solveCone
   solve-swing-nonNegative free on = rw (worked on free) (coneRow-nonNegative _ _ _ _ _ _ _ _ _ _)
 
-  pub solve-limits : base .«fixed_rotation» ≡ false → LimitsNonNegative j (solveSpherical base j h invH stateA stateB useBias .joint)
+  pub solve-limits : base .«fixed_rotation» ≡ false → LimitImpulsesNonNegative j (solveSpherical base j h invH stateA stateB useBias .joint)
   solve-limits free =
       record {
         lower-twist = solve-lower-twist-nonNegative free;
@@ -67,51 +69,20 @@ module _ (base : JointBase) (j : SphericalJoint) (h invH : Float) (stateA stateB
   -- A solve changes at most the six impulses: linear_impulse, spring_impulse, motor_impulse, lower_twist_impulse, upper_twist_impulse and swing_impulse.
   pub solve-keeps :
       let next = solveSpherical base j h invH stateA stateB useBias .joint in
-      next ≡ withImpulses j (next .«linear_impulse») (next .«spring_impulse») (next .«motor_impulse») (next .«lower_twist_impulse») (next .«upper_twist_impulse») (next .«swing_impulse»)
+      next
+      ≡ withImpulses j (next .«linear_impulse») (next .«spring_impulse») (next .«motor_impulse») (next .«lower_twist_impulse»)
+      (next .«upper_twist_impulse») (next .«swing_impulse»)
   unfolding solveSpherical
   solve-keeps = refl
 
 -- ---- indices
 
-abbrev pub withIndices : SphericalJoint → ℤ → ℤ → SphericalJoint
-withIndices j indexA indexB =
-    record {
-      «linear_impulse» = j .«linear_impulse»;
-      «spring_impulse» = j .«spring_impulse»;
-      «motor_impulse» = j .«motor_impulse»;
-      «lower_twist_impulse» = j .«lower_twist_impulse»;
-      «upper_twist_impulse» = j .«upper_twist_impulse»;
-      «swing_impulse» = j .«swing_impulse»;
-      hertz = j .hertz;
-      «damping_ratio» = j .«damping_ratio»;
-      «max_motor_torque» = j .«max_motor_torque»;
-      «motor_velocity» = j .«motor_velocity»;
-      «lower_twist_angle» = j .«lower_twist_angle»;
-      «upper_twist_angle» = j .«upper_twist_angle»;
-      «cone_angle» = j .«cone_angle»;
-      «target_rotation» = j .«target_rotation»;
-      «index_a» = indexA;
-      «index_b» = indexB;
-      «frame_a» = j .«frame_a»;
-      «frame_b» = j .«frame_b»;
-      «delta_center» = j .«delta_center»;
-      «swing_axis» = j .«swing_axis»;
-      «twist_jacobian» = j .«twist_jacobian»;
-      «rotation_mass» = j .«rotation_mass»;
-      «swing_mass» = j .«swing_mass»;
-      «twist_mass» = j .«twist_mass»;
-      «spring_softness» = j .«spring_softness»;
-      «enable_spring» = j .«enable_spring»;
-      «enable_motor» = j .«enable_motor»;
-      «enable_cone_limit» = j .«enable_cone_limit»;
-      «enable_twist_limit» = j .«enable_twist_limit»;
-    }
-
 -- with other indices in the joint a solve leaves the same, with those indices in it
 pub solve-indices : (base : JointBase) (j : SphericalJoint) (h invH : Float) (stateA stateB : BodyState) (useBias : Bool) (indexA indexB : ℤ) →
     let next = solveSpherical base j h invH stateA stateB useBias in
-    solveSpherical base (withIndices j indexA indexB) h invH stateA stateB useBias ≡ sphericalSolved (withIndices (next .joint) indexA indexB) (next .velocities)
-unfolding solveSpherical
+    solveSpherical base (withIndices j indexA indexB) h invH stateA stateB useBias
+    ≡ sphericalSolved (withIndices (next .joint) indexA indexB) (next .velocities)
+unfolding solveSpherical jointRotation solveSpring solveMotor solveLimits solveCone solveBias solvePoint
 solve-indices base j h invH stateA stateB useBias indexA indexB = refl
 
 pub warm-start-indices : (base : JointBase) (j : SphericalJoint) (stateA stateB : BodyState) (indexA indexB : ℤ) →
@@ -124,7 +95,7 @@ warm-start-indices base j stateA stateB indexA indexB = refl
 -- a solve reads the velocities, the delta position and the delta rotation of a state, and not its flags
 pub solve-flags : (base : JointBase) (j : SphericalJoint) (h invH : Float) (stateA stateB : BodyState) (useBias : Bool) (flagsA flagsB : ℕ) →
     solveSpherical base j h invH (withFlags stateA flagsA) (withFlags stateB flagsB) useBias ≡ solveSpherical base j h invH stateA stateB useBias
-unfolding solveSpherical velocitiesOf
+unfolding solveSpherical velocitiesOf jointRotation solveBias solvePoint
 solve-flags base j h invH stateA stateB useBias flagsA flagsB = refl
 
 -- a warm start reads neither the flags nor the delta position
@@ -234,8 +205,8 @@ module _ (sim : JointSim) (context : StepContext) (stateA stateB : BodyState) (u
 
   -- where the number is 0 and rotation is not fixed, the enabled limits' impulses of the joint that is returned are zero or positive, never a NaN
   pub solve-joint-limits : solveSphericalJoint sim context stateA stateB useBias .number ≡ 0 → sim .base .«fixed_rotation» ≡ false
-      → BothOfKind asSpherical LimitsNonNegative (sim .«union_») (solveSphericalJoint sim context stateA stateB useBias .joint .«union_»)
+      → BothOfKind asSpherical LimitImpulsesNonNegative (sim .«union_») (solveSphericalJoint sim context stateA stateB useBias .joint .«union_»)
   unfolding solveSphericalJoint
   solve-joint-limits e free =
-      both-of-kind (λ (r : Solved). r .number) (λ (r : Solved). r .joint .«union_») asSpherical LimitsNonNegative (sim .«union_») _ _ refl
+      both-of-kind (λ (r : Solved). r .number) (λ (r : Solved). r .joint .«union_») asSpherical LimitImpulsesNonNegative (sim .«union_») _ _ refl
       (λ j. (_, refl, solve-limits (sim .base) j (context .h) (context .«inv_h») stateA stateB useBias free)) e

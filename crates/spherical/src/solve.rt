@@ -1,10 +1,7 @@
-// The warm start and the solve of a spherical joint.
-ghost use mathlib.Core.Bool.{true};
+// The solve of a spherical joint, which works the rows.
 ghost use mathlib.Core.Path.{_≡_};
-ghost use Rattle.constraint.specs.Angular as Angular;
-ghost use Rattle.constraint.specs.Point as Point;
-ghost use Rattle.constraint.specs.Rotation as Rotation;
 ghost use Rattle.spherical.specs.Spherical as D;
+ghost use Rattle.spherical.specs.Steps as Steps;
 use crate::rows::cone_row;
 use crate::rows::motor_row;
 use crate::rows::point_row;
@@ -27,14 +24,10 @@ use constraint::soft::limit_bias;
 use constraint::velocity::InvMasses;
 use constraint::velocity::Velocities;
 use constraint::velocity::apply_axial;
-use constraint::velocity::apply_warm;
 use constraint::velocity::inv_masses_of;
 use constraint::velocity::velocities_of;
 use math_functions::quat::rotate_vector;
 use math_functions::types::Vec3;
-use math_functions::vector::add;
-use math_functions::vector::mul_add;
-use math_functions::vector::mul_sub;
 use records::body::BodyState;
 use records::joint::JointBase;
 use records::joint::SphericalJoint;
@@ -46,34 +39,9 @@ pub struct SphericalSolved {
     pub velocities: Velocities,
 }
 
-pub fn warm_start_spherical(
-    base: JointBase,
-    joint: SphericalJoint,
-    state_a: BodyState,
-    state_b: BodyState,
-) -> Velocities
-    ensures { λ r. ⌜ r ≡ D.warmStartSpherical base joint «state_a» «state_b» ⌝ }
-{
-    let r_a = rotate_vector(state_a.delta_rotation, joint.frame_a.p);
-    let r_b = rotate_vector(state_b.delta_rotation, joint.frame_b.p);
-
-    let mut angular_impulse = add(joint.spring_impulse, joint.motor_impulse);
-    angular_impulse = mul_sub(angular_impulse, joint.swing_impulse, joint.swing_axis);
-    angular_impulse = mul_add(
-        angular_impulse,
-        joint.lower_twist_impulse - joint.upper_twist_impulse,
-        joint.twist_jacobian,
-    );
-
-    let m = inv_masses_of(base);
-    let v = velocities_of(state_a, state_b);
-    apply_warm(m, r_a, r_b, joint.linear_impulse, angular_impulse, v)
-}
-
-// The rows of a joint: each of these hands a row its fields of the joint.
-
-fn solve_rotation(joint: SphericalJoint, state_a: BodyState, state_b: BodyState) -> RelativeRotation
-    ensures { λ r. ⌜ r ≡ Rotation.relativeRotation («state_a» .«delta_rotation») (joint .«frame_a» .q) («state_b» .«delta_rotation») (joint .«frame_b» .q) ⌝ }
+// Where frame B stands relative to frame A.
+fn joint_rotation(joint: SphericalJoint, state_a: BodyState, state_b: BodyState) -> RelativeRotation
+    ensures { λ r. ⌜ r ≡ D.jointRotation joint «state_a» «state_b» ⌝ }
 {
     relative_rotation(
         state_a.delta_rotation,
@@ -83,17 +51,18 @@ fn solve_rotation(joint: SphericalJoint, state_a: BodyState, state_b: BodyState)
     )
 }
 
+// The spring row at the fields of the joint.
 fn solve_spring(
-    base: JointBase,
+    fixed_rotation: bool,
     joint: SphericalJoint,
     rotation: RelativeRotation,
     m: InvMasses,
     v: Velocities,
 ) -> Row3
-    ensures { λ r. ⌜ r ≡ D.springRow (Angular.isWorked (joint .«enable_spring») (base .«fixed_rotation»)) rotation (joint .«target_rotation») (joint .«spring_softness») (joint .«rotation_mass») (joint .«spring_impulse») m v ⌝ }
+    ensures { λ r. ⌜ r ≡ D.solveSpring «fixed_rotation» joint rotation m v ⌝ }
 {
     spring_row(
-        is_worked(joint.enable_spring, base.fixed_rotation),
+        is_worked(joint.enable_spring, fixed_rotation),
         rotation,
         joint.target_rotation,
         joint.spring_softness,
@@ -104,11 +73,18 @@ fn solve_spring(
     )
 }
 
-fn solve_motor(base: JointBase, joint: SphericalJoint, h: f32, m: InvMasses, v: Velocities) -> Row3
-    ensures { λ r. ⌜ r ≡ D.motorRow (Angular.isWorked (joint .«enable_motor») (base .«fixed_rotation»)) (joint .«motor_velocity») (joint .«max_motor_torque») h (joint .«rotation_mass») (joint .«motor_impulse») m v ⌝ }
+// The motor row at the fields of the joint.
+fn solve_motor(
+    fixed_rotation: bool,
+    joint: SphericalJoint,
+    h: f32,
+    m: InvMasses,
+    v: Velocities,
+) -> Row3
+    ensures { λ r. ⌜ r ≡ D.solveMotor «fixed_rotation» joint h m v ⌝ }
 {
     motor_row(
-        is_worked(joint.enable_motor, base.fixed_rotation),
+        is_worked(joint.enable_motor, fixed_rotation),
         joint.motor_velocity,
         joint.max_motor_torque,
         h,
@@ -119,18 +95,18 @@ fn solve_motor(base: JointBase, joint: SphericalJoint, h: f32, m: InvMasses, v: 
     )
 }
 
-// The twist rows, where they are worked. A limit that does not push is passed by a branch, which the
-// processor predicts, so that what follows need not wait for the sum.
-fn twist_rows(
+// The twist limit's rows, where they are worked. A limit that does not push is passed by a branch,
+// which the processor predicts, so that what follows need not wait for the sum.
+fn limit_rows_at(
+    softness: Softness,
     joint: SphericalJoint,
     angle: f32,
-    softness: Softness,
     inv_h: f32,
     use_bias: bool,
     m: InvMasses,
     v: Velocities,
 ) -> LimitRows
-    ensures { λ r. ⌜ r ≡ Angular.twistLimitRows true angle (joint .«lower_twist_angle») (joint .«upper_twist_angle») softness «inv_h» «use_bias» (joint .«twist_mass») (joint .«twist_jacobian») (joint .«lower_twist_impulse») (joint .«upper_twist_impulse») m v ⌝ }
+    ensures { λ r. ⌜ r ≡ Steps.limitRowsAt softness joint angle «inv_h» «use_bias» m v ⌝ }
 {
     let mass = joint.twist_mass;
     let axis = joint.twist_jacobian;
@@ -156,8 +132,10 @@ fn twist_rows(
     limit_rows(0.0, upper_row_to(0.0, old_upper, axis, m, v))
 }
 
-fn solve_twist(
-    base: JointBase,
+// The two limit rows at the fields of the joint.
+fn solve_limits(
+    fixed_rotation: bool,
+    softness: Softness,
     joint: SphericalJoint,
     angle: f32,
     inv_h: f32,
@@ -165,28 +143,22 @@ fn solve_twist(
     m: InvMasses,
     v: Velocities,
 ) -> LimitRows
-    ensures { λ r. ⌜ r ≡ Angular.twistLimitRows (Angular.isWorked (joint .«enable_twist_limit») (base .«fixed_rotation»)) angle (joint .«lower_twist_angle») (joint .«upper_twist_angle») (base .«constraint_softness») «inv_h» «use_bias» (joint .«twist_mass») (joint .«twist_jacobian») (joint .«lower_twist_impulse») (joint .«upper_twist_impulse») m v ⌝ }
+    ensures { λ r. ⌜ r ≡ D.solveLimits «fixed_rotation» softness joint angle «inv_h» «use_bias» m v ⌝ }
 {
-    if !is_worked(joint.enable_twist_limit, base.fixed_rotation) {
+    if !is_worked(joint.enable_twist_limit, fixed_rotation) {
         return LimitRows {
             lower_impulse: joint.lower_twist_impulse,
             upper_impulse: joint.upper_twist_impulse,
             velocities: v,
         };
     }
-    twist_rows(
-        joint,
-        angle,
-        base.constraint_softness,
-        inv_h,
-        use_bias,
-        m,
-        v,
-    )
+    limit_rows_at(softness, joint, angle, inv_h, use_bias, m, v)
 }
 
+// The cone's row at the fields of the joint.
 fn solve_cone(
-    base: JointBase,
+    fixed_rotation: bool,
+    softness: Softness,
     joint: SphericalJoint,
     swing_angle: f32,
     inv_h: f32,
@@ -194,13 +166,13 @@ fn solve_cone(
     m: InvMasses,
     v: Velocities,
 ) -> AxialRow
-    ensures { λ r. ⌜ r ≡ D.coneRow (Angular.isWorked (joint .«enable_cone_limit») (base .«fixed_rotation»)) «swing_angle» (joint .«cone_angle») (base .«constraint_softness») «inv_h» «use_bias» (joint .«swing_mass») (joint .«swing_axis») (joint .«swing_impulse») m v ⌝ }
+    ensures { λ r. ⌜ r ≡ D.solveCone «fixed_rotation» softness joint «swing_angle» «inv_h» «use_bias» m v ⌝ }
 {
     cone_row(
-        is_worked(joint.enable_cone_limit, base.fixed_rotation),
+        is_worked(joint.enable_cone_limit, fixed_rotation),
         swing_angle,
         joint.cone_angle,
-        base.constraint_softness,
+        softness,
         inv_h,
         use_bias,
         joint.swing_mass,
@@ -211,8 +183,9 @@ fn solve_cone(
     )
 }
 
+// The bias of the point row at the fields of the joint and the states.
 fn solve_bias(
-    base: JointBase,
+    softness: Softness,
     joint: SphericalJoint,
     r_a: Vec3,
     r_b: Vec3,
@@ -220,11 +193,11 @@ fn solve_bias(
     state_b: BodyState,
     use_bias: bool,
 ) -> SoftBias3
-    ensures { λ r. ⌜ r ≡ Point.pointBias «use_bias» (base .«constraint_softness») «r_a» «r_b» («state_a» .«delta_position») («state_b» .«delta_position») (joint .«delta_center») ⌝ }
+    ensures { λ r. ⌜ r ≡ D.solveBias softness joint «r_a» «r_b» «state_a» «state_b» «use_bias» ⌝ }
 {
     point_bias(
         use_bias,
-        base.constraint_softness,
+        softness,
         r_a,
         r_b,
         state_a.delta_position,
@@ -248,17 +221,36 @@ pub fn solve_spherical(
 {
     let m = inv_masses_of(base);
     let v = velocities_of(state_a, state_b);
-    let rotation = solve_rotation(joint, state_a, state_b);
+    let rotation = joint_rotation(joint, state_a, state_b);
     let fixed = base.fixed_rotation;
-    let spring = solve_spring(base, joint, rotation, m, v);
-    let motor = solve_motor(base, joint, h, m, spring.velocities);
+    let soft = base.constraint_softness;
+    let spring = solve_spring(fixed, joint, rotation, m, v);
+    let motor = solve_motor(fixed, joint, h, m, spring.velocities);
     let angle = twist_angle_if(is_worked(joint.enable_twist_limit, fixed), rotation.rel_q);
     let swing = swing_angle_if(is_worked(joint.enable_cone_limit, fixed), rotation.rel_q);
-    let twist = solve_twist(base, joint, angle, inv_h, use_bias, m, motor.velocities);
+    let limits = solve_limits(
+        fixed,
+        soft,
+        joint,
+        angle,
+        inv_h,
+        use_bias,
+        m,
+        motor.velocities,
+    );
     let r_a = rotate_vector(state_a.delta_rotation, joint.frame_a.p);
     let r_b = rotate_vector(state_b.delta_rotation, joint.frame_b.p);
-    let bias = solve_bias(base, joint, r_a, r_b, state_a, state_b, use_bias);
-    let cone = solve_cone(base, joint, swing, inv_h, use_bias, m, twist.velocities);
+    let bias = solve_bias(soft, joint, r_a, r_b, state_a, state_b, use_bias);
+    let cone = solve_cone(
+        fixed,
+        soft,
+        joint,
+        swing,
+        inv_h,
+        use_bias,
+        m,
+        limits.velocities,
+    );
     let point = point_row(bias, r_a, r_b, joint.linear_impulse, m, cone.velocities);
 
     let linear_impulse = point.impulse;
@@ -268,8 +260,8 @@ pub fn solve_spherical(
     joint.linear_impulse = linear_impulse;
     joint.spring_impulse = spring_impulse;
     joint.motor_impulse = motor_impulse;
-    joint.lower_twist_impulse = twist.lower_impulse;
-    joint.upper_twist_impulse = twist.upper_impulse;
+    joint.lower_twist_impulse = limits.lower_impulse;
+    joint.upper_twist_impulse = limits.upper_impulse;
     joint.swing_impulse = cone.impulse;
     SphericalSolved { joint, velocities }
 }
