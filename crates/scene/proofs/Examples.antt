@@ -60,7 +60,7 @@ each-alike j = either-order (eqb 0 j) (eqb 1 j) _ _ (λ p q. omega (arith, eqb-t
 ends : (endX 0x1000 firstThenSecond 0 ≡ two) × (endX 0x1000 secondThenFirst 0 ≡ four) × (endX 0 firstThenSecond 0 ≡ two) × (endX 0 firstThenSecond 2 ≡ four)
 unfolding chain plainRun verdict earlyCause cause step store isStill sameVelocities Option·elim Body.isDynamic Body.storeVelocities
     Stage.stageJoint Stage.warmStartAs Stage.solveAs
-    Weld.solveWeldJoint Weld.solveWeld Weld.solveAngular Weld.weldAngularRow Weld.solvePoint Weld.pointRow Weld.isSoft
+    Weld.solveWeldJoint Weld.solveWeld Weld.jointRotation Weld.solveAngular Weld.weldAngularRow Weld.solveBias Weld.solvePoint Weld.pointRow Weld.isSoft
     Velocity.velocitiesOf Velocity.invMassesOf Velocity.applyPoint Soft.softImpulse3 Soft.softBias3
     Rotation.flippedRelativeRotation Rotation.relativeRotation Rotation.samePolarity Angular.isWorked
     Point.pointBias Point.pointMass Point.pointCdotGrouped Scalar.absFloat
