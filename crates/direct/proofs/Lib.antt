@@ -1,3 +1,7 @@
+pub mod Outcomes
+pub mod Stored
+pub mod OneCall
+pub mod Proved
 pub mod Indices
 pub mod Again
 pub mod Lent

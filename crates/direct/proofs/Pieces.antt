@@ -17,7 +17,7 @@ lends s i j b =
     seq (assign (place i []) (addrOf (place s (field 0 ∷ deref Ts′.mir ∷ []))))
     (seq (assign (place j []) (aggregate (copy (place i []) ∷ copy (place s (field 1 ∷ [])) ∷ []))) b)
 
--- the answer is that of the places at the local p
+-- the answer is that of the positions at the local p
 abbrev pub answers : ℕ → Body
 answers p = seq (assign (place 0 []) (rvOpd (copy (place p (field 0 ∷ []))))) return
 

@@ -22,7 +22,7 @@ use Rattle.constraint.specs.declared.answer.WarmStarted.{WarmStarted}
 use Rattle.constraint.specs.declared.answer.Solved.{Solved}
 use Rattle.joint.specs.declared.store.StatePair.{StatePair}
 use Rattle.direct.specs.declared.Answer.{Answer}
-use Rattle.direct.specs.declared.places.Places.{Places}
+use Rattle.direct.specs.declared.positions.Positions.{Positions}
 use Rattle.math_functions.proofs.types.Vec3 as T3
 use Rattle.math_functions.proofs.types.Vec3.Laws as T3′
 use Rattle.solver.proofs.StepContext as Tx
@@ -41,8 +41,8 @@ use Rattle.joint.proofs.store.StatePair as Tq
 use Rattle.joint.proofs.store.StatePair.Laws as Tq′
 use Rattle.direct.proofs.Answer as Tw
 use Rattle.direct.proofs.Answer.Laws as Tw′
-use Rattle.direct.proofs.places.Places as Tp
-use Rattle.direct.proofs.places.Places.Laws as Tp′
+use Rattle.direct.proofs.positions.Positions as Tp
+use Rattle.direct.proofs.positions.Positions.Laws as Tp′
 
 -- ---- Vec3
 
@@ -218,27 +218,27 @@ vals-w y = val-w y ∷ []
 pub tells-w : Tells Wn (Is Wn) vals-w
 tells-w = LL.tells Tw.the-type Tw′.the-laws
 
--- ---- Places
+-- ---- Positions
 
 abbrev pub P : RattleType
 P = Tp.the-row
 
-abbrev pub val-p : Places → Val
+abbrev pub val-p : Positions → Val
 val-p y = vstruct (vcons (val-w (y .answer)) (vcons (vint w64 (y .a)) (vcons (vint w64 (y .b)) vnil)))
 
-abbrev pub vals-p : Places → List Val
+abbrev pub vals-p : Positions → List Val
 vals-p y = val-p y ∷ []
 
 pub tells-p : Tells P (Is P) vals-p
 tells-p = LL.tells Tp.the-type Tp′.the-laws
 
-pub p-answer : (y : Places) → Is P y (vals-p y) → Is Wn (y .answer) (vals-w (y .answer))
+pub p-answer : (y : Positions) → Is P y (vals-p y) → Is Wn (y .answer) (vals-w (y .answer))
 p-answer y is = LL.owed Tp.the-type Tp′.the-laws y _ is .0
 
-pub p-a : (y : Places) → Is P y (vals-p y) → y .a < 2 ^ 64
+pub p-a : (y : Positions) → Is P y (vals-p y) → y .a < 2 ^ 64
 p-a y is = LL.owed Tp.the-type Tp′.the-laws y _ is .1 .0 .1
 
-pub p-b : (y : Places) → Is P y (vals-p y) → y .b < 2 ^ 64
+pub p-b : (y : Positions) → Is P y (vals-p y) → y .b < 2 ^ 64
 p-b y is = LL.owed Tp.the-type Tp′.the-laws y _ is .1 .1 .0 .1
 
 -- ---- over a model
@@ -304,5 +304,5 @@ module _ {M : Type 1} (𝓤 : URA M) (H : Heap 𝓤) (A : Atoms 𝓤) where
     pub typed-w : (y : Answer) → Is Wn y (vals-w y) → T (hasTy Tw′.mir (val-w y)) × WT (val-w y)
     typed-w y is = LL.lawful Tw.the-type Tw′.the-laws 𝓤 H A W .typed y _ is .0
 
-    pub typed-p : (y : Places) → Is P y (vals-p y) → T (hasTy Tp′.mir (val-p y)) × WT (val-p y)
+    pub typed-p : (y : Positions) → Is P y (vals-p y) → T (hasTy Tp′.mir (val-p y)) × WT (val-p y)
     typed-p y is = LL.lawful Tp.the-type Tp′.the-laws 𝓤 H A W .typed y _ is .0

@@ -47,9 +47,10 @@ use Rattle.records.specs.declared.body.BodyState.{BodyState}
 use Rattle.records.specs.declared.joint.JointSim.{JointSim}
 use Rattle.constraint.specs.declared.answer.Solved.{Solved}
 use Rattle.joint.specs.declared.store.StatePair.{StatePair}
+use Rattle.joint.specs.Stage.{ofSolve}
 use Rattle.joint.proofs.Stages.{solveOf}
-use Rattle.direct.specs.declared.places.Places.{Places}
-use Rattle.direct.specs.Steps.{placesOf, readStates, writeStates}
+use Rattle.direct.specs.declared.positions.Positions.{Positions}
+use Rattle.direct.specs.Steps.{positionsOf, readStates, writeStates}
 use Rattle.direct.specs.Direct.{solve, Outcome, refused, directCall, Leaves}
 use Rattle.solver.proofs.StepContext.Laws as Tx′
 use Rattle.records.proofs.joint.JointSim.Laws as Tj′
@@ -57,13 +58,13 @@ use Rattle.constraint.proofs.velocity.Velocities.Laws as Tv′
 use Rattle.constraint.proofs.answer.Solved as Tg
 use Rattle.joint.proofs.store.StatePair.Laws as Tq′
 use Rattle.direct.proofs.Answer.Laws as Tw′
-use Rattle.direct.proofs.places.Places.Laws as Tp′
+use Rattle.direct.proofs.positions.Positions.Laws as Tp′
 use Rattle.direct.proofs.Rows.{R, J, X, G, Wn, val-j, vals-j, tells-j, made-j, typed-j, val-x, vals-x, tells-x, made-x, typed-x, val-g, vals-g, typed-g, g-joint, g-velocities, typed-p, p-answer, typed-q, q-state-a, q-state-b, val-w, vals-w, made-w, typed-w}
 use Rattle.direct.proofs.Pieces.{refTo, lends, answers, joint-mir}
 use Rattle.direct.proofs.Calls.{Read, Write, calls-read, calls-write}
 use Rattle.direct.proofs.Stages.{Find, SolveOf, calls-find, calls-solve}
 use Rattle.direct.proofs.Planned.{write-long, leaves, refuses, solved}
-use Rattle.direct.proofs.places.find_places.Symbol.{name as #find}
+use Rattle.direct.proofs.positions.find_positions.Symbol.{name as #find}
 use Rattle.direct.proofs.states.read_states.Symbol.{name as #read}
 use Rattle.direct.proofs.states.write_states.Symbol.{name as #write}
 
@@ -132,8 +133,8 @@ module _ {M : Type 1} (𝓤 : URA M) (H : Heap 𝓤) (A : Atoms 𝓤) (W : Given
   at = (vptr b o ∷ [], (vals-x ctx, (s ∷ [], (vbool u ∷ [], tt))))
 
   -- what is computed on the way
-  abbrev pl : Places
-  pl = placesOf k h n
+  abbrev pl : Positions
+  pl = positionsOf k h n
 
   abbrev ab : StatePair
   ab = readStates pl ys
@@ -141,8 +142,8 @@ module _ {M : Type 1} (𝓤 : URA M) (H : Heap 𝓤) (A : Atoms 𝓤) (W : Given
   abbrev st : Solved
   st = solveOf k h ctx (ab .«state_a») (ab .«state_b») u
 
-  abbrev left : JointSim
-  left = st .joint
+  abbrev solved-joint : JointSim
+  solved-joint = st .joint
 
   -- what the end is handed: the slice at the last states, the joint's borrow at the last joint, and the tokens
   abbrev Handed : JointSim → List BodyState → List (Item 𝓤)
@@ -162,7 +163,7 @@ module _ {M : Type 1} (𝓤 : URA M) (H : Heap 𝓤) (A : Atoms 𝓤) (W : Given
 
   module _ (τj : Ty) (νg : Sym) (τg : Tys) {dj dg : ℕ} (ej : fieldAt 0 τg 2 ≡ some (τj, dj)) (eg : fieldAt 0 τg 3 ≡ some (Tv′.mir, dg)) (J-mir : J .mir ≡ τj ∷ []) (j-typed : (y : JointSim) → Is J y (vals-j y) → T (hasTy τj (val-j y)) × WT (val-j y)) (g-typed : Is G st (vals-g st) → T (hasTy (tyStruct νg τg) (val-g st)) × WT (val-g st)) (Post : Val → SProp 𝓤)
       (refuses : Is Wn (pl .answer) (vals-w (pl .answer)) → T (not (eqb (pl .answer .number) 0)) → ent 𝓤 (⋆ 𝓤 H A (Handed h ys)) (Post (val-w (pl .answer))))
-      (ends : Is Wn (pl .answer) (vals-w (pl .answer)) → T (not (not (eqb (pl .answer .number) 0))) → ent 𝓤 (⋆ 𝓤 H A (Handed left (writeStates pl (st .velocities) ys))) (Post (val-w (pl .answer))))
+      (ends : Is Wn (pl .answer) (vals-w (pl .answer)) → T (not (not (eqb (pl .answer .number) 0))) → ent 𝓤 (⋆ 𝓤 H A (Handed solved-joint (writeStates pl (st .velocities) ys))) (Post (val-w (pl .answer))))
       (#stage : Name) (C : Calls 𝓤 H) (Λ : Loops 𝓤 H) (fm : FmC 𝓤 H (W .laws) C) (known-find : Triple 𝓤 (C #find) (Find 𝓤 H A mem run)) (known-read : Triple 𝓤 (C #read) (Read 𝓤 H A mem run)) (known-stage : Triple 𝓤 (C #stage) (SolveOf 𝓤 H A k)) (known-write : Triple 𝓤 (C #write) (Write 𝓤 H A mem run)) where
     abbrev En : ℕ → ℕ → ℕ → ℕ → ℕ → ℕ → ℕ → ℕ → ℕ → ℕ → ℕ → ℕ → ℕ → ℕ → ℕ → ℕ → Env 𝓤 H
     En l₀ l₁ l₂ l₃ l₄ l₅ l₆ l₇ l₈ l₉ l₁₀ l₁₁ l₁₂ l₁₃ l₁₄ l₁₅ = (Tw′.mir, l₀) ∷ (tyRef (named 0) mut (pointee (J .written)), l₁) ∷ (Tx′.mir, l₂) ∷ (sliceTy (tyRef (named 1) mut (pointee (R .written))), l₃) ∷ (tyBool, l₄) ∷ (tyInt w64, l₅) ∷ (Tp′.mir, l₆) ∷ (Tq′.mir, l₇) ∷ (tyStruct νg τg, l₈) ∷ (τj, l₉) ∷ (tyBool, l₁₀)
@@ -199,13 +200,13 @@ module _ {M : Type 1} (𝓤 : URA M) (H : Heap 𝓤) (A : Atoms 𝓤) (W : Given
         calls-read 𝓤 H A W mem run (named 1) κ′ q′ b′ o′ γ′ n ys refl room pl p-is ! fm known-read (λ ν δ. (and-then ! (load ! (from ! (stop !)) (look ! 12 refl)) (and-then ! (load ! (from ! (stop !)) (look ! 24 refl)) (no-more !)))) (λ q-is. land ! (from ! (stop !)) (init ! 22 refl (typed-q 𝓤 H A W ab q-is)) $
         assigns ! (of-opd ! (load ! (from ! (hop ! (look ! 34 refl) (stop !))) (look-raw ! 2 refl))) (from ! (stop !)) (store ! 18 refl (j-typed h j-is)) $
         calls-solve 𝓤 H A W k h ctx (ab .«state_a») (ab .«state_b») u j-is x-is (q-state-a ab q-is) (q-state-b ab q-is) ! fm known-stage (and-then ! (load ! (from ! (stop !)) (look ! 19 refl)) (and-then ! (load ! (from ! (stop !)) (look ! 33 refl)) (and-then ! (load ! (from ! (fld ! refl (stop !))) (look-in ! 23 (sub ! 0 refl (whole !)))) (and-then ! (load ! (from ! (fld ! refl (stop !))) (look-in ! 23 (sub ! 1 refl (whole !)))) (and-then ! (load ! (from ! (stop !)) (look ! 29 refl)) (no-more !)))))) (λ g-is. land ! (from ! (stop !)) (init ! 20 refl (g-typed g-is)) $
-        assigns ! (of-opd ! (load ! (from ! (fld ! ej (stop !))) (look-in ! 20 (sub ! 2 ej (whole !))))) (from ! (hop ! (look ! 34 refl) (stop !))) (store-raw ! 2 refl (j-typed left (g-joint st g-is))) $
+        assigns ! (of-opd ! (load ! (from ! (fld ! ej (stop !))) (look-in ! 20 (sub ! 2 ej (whole !))))) (from ! (hop ! (look ! 34 refl) (stop !))) (store-raw ! 2 refl (j-typed solved-joint (g-joint st g-is))) $
         assigns ! (addr ! (from ! (fld ! refl (hop ! (look-in ! 30 (sub ! 0 refl (whole !))) (stop !))))) (from ! (stop !)) (init ! 8 refl (tt, tt)) $
         assigns ! (agg ! (and-then ! (load ! (from ! (stop !)) (look ! 8 refl)) (and-then ! (load ! (from ! (fld ! refl (stop !))) (look-in ! 30 (sub ! 1 refl (whole !)))) (no-more !)))) (from ! (stop !)) (init ! 6 refl (tt, (tt, (record { fits = room .0 }, tt)))) $
         calls-write 𝓤 H A W mem run (named 1) κ′ q′ b′ o′ γ′ n ys refl room pl (st .velocities) p-is (g-velocities st g-is) ! fm known-write (λ ν δ. (and-then ! (load ! (from ! (stop !)) (look ! 6 refl)) (and-then ! (load ! (from ! (stop !)) (look ! 24 refl)) (and-then ! (load ! (from ! (fld ! eg (stop !))) (look-in ! 20 (sub ! 3 eg (whole !)))) (no-more !))))) $ land ! (from ! (stop !)) (init ! 10 refl (tt, tt)) $
         assigns ! (of-opd ! (load ! (from ! (fld ! refl (stop !))) (look-in ! 24 (sub ! 0 refl (whole !))))) (from ! (stop !)) (init ! 36 refl (typed-w 𝓤 H A W (pl .answer) (p-answer pl p-is))) $
-        -- the joint's borrow is closed at the joint that is left
-        move ! (2 ∷ []) $ rewrite ! 0 (λ (ts : List Ty). ‵ (cellAt fullShare ts (vals-j left) b o)) (sym J-mir) refl $ owned ! J (Is J) (made-j 𝓤 H A) left _ (g-joint st g-is) $ move ! (1 ∷ 0 ∷ 4 ∷ 5 ∷ 6 ∷ []) $ closes ! tt J left (vals-j left) b o $
+        -- the joint's borrow is closed at the joint that the stage leaves
+        move ! (2 ∷ []) $ rewrite ! 0 (λ (ts : List Ty). ‵ (cellAt fullShare ts (vals-j solved-joint) b o)) (sym J-mir) refl $ owned ! J (Is J) (made-j 𝓤 H A) solved-joint _ (g-joint st g-is) $ move ! (1 ∷ 0 ∷ 4 ∷ 5 ∷ 6 ∷ []) $ closes ! tt J solved-joint (vals-j solved-joint) b o $
         returns ! (look ! 35 refl) $ forget ! 5 refl $ forget ! 7 refl $ forget ! 9 refl $ forget ! 11 refl $ forget ! 13 refl $ forget ! 15 refl $ forget ! 17 refl $ forget ! 19 refl $ forget ! 21 refl $ forget ! 23 refl $ forget ! 25 refl $ forget ! 27 refl $ forget ! 29 refl $ forget ! 31 refl $ forget ! 33 refl $ forget ! 35 refl $
         move ! (35 ∷ 36 ∷ []) $ free1 ! $ move ! (33 ∷ 34 ∷ []) $ free1 ! $ move ! (31 ∷ 32 ∷ []) $ free1 ! $ move ! (29 ∷ 30 ∷ []) $ free1 ! $ move ! (27 ∷ 28 ∷ []) $ free1 ! $ move ! (25 ∷ 26 ∷ []) $ free1 ! $ move ! (23 ∷ 24 ∷ []) $ free1 ! $ move ! (21 ∷ 22 ∷ []) $ free1 ! $ move ! (19 ∷ 20 ∷ []) $ free1 ! $ move ! (17 ∷ 18 ∷ []) $ free1 ! $ move ! (15 ∷ 16 ∷ []) $ free1 ! $ move ! (13 ∷ 14 ∷ []) $ free1 ! $ move ! (11 ∷ 12 ∷ []) $ free1 ! $ move ! (9 ∷ 10 ∷ []) $ free1 ! $ move ! (7 ∷ 8 ∷ []) $ free1 ! $ move ! (5 ∷ 6 ∷ []) $ free1 ! $ free0 ! $
         keep ! (3 ∷ 4 ∷ 0 ∷ 1 ∷ 2 ∷ []) $ by ! (ends (p-answer pl p-is) yes)))))))))))))))))))))))
@@ -230,13 +231,13 @@ module _ {M : Type 1} (𝓤 : URA M) (H : Heap 𝓤) (A : Atoms 𝓤) (W : Given
           ent 𝓤 (onEntry 𝓤 H A signature (κ, (κ′, tt)) (q, (q′, tt)) (record { ptr = (b, o); name = γ; now = h }, (ctx, (record { ptr = (b′, o′); name = γ′; now = ys }, (u, tt)))) (vptr b o ∷ [], (vals-x ctx, (l ∷ [], (vbool u ∷ [], tt)))))
           (WpFn 𝓤 H C Λ (code k #stage) (vptr b o ∷ val-x ctx ∷ l ∷ vbool u ∷ []) (Post 𝓤 H A W mem run k k-fits κ κ′ q q′ b o γ h ctx b′ o′ γ′ ys u room x-is bounds))
       one κ κ′ bounds q q′ b o γ h ctx b′ o′ γ′ ys u room x-is =
-          let pl = placesOf k h (length ys) in
+          let pl = positionsOf k h (length ys) in
           let ab = readStates pl ys in
           let st = solveOf k h ctx (ab .«state_a») (ab .«state_b») u in
           let out = exits 𝓤 H A W mem run k k-fits κ κ′ q q′ b o γ h ctx b′ o′ γ′ ys u room x-is bounds in
           walk 𝓤 H A W mem run k k-fits κ κ′ q q′ b o γ h ctx b′ o′ γ′ ys u room x-is Tj′.mir (Tg.the-type .name) solved-fields refl refl joint-mir (typed-j 𝓤 H A W) (typed-g 𝓤 H A W st) (Post 𝓤 H A W mem run k k-fits κ κ′ q q′ b o γ h ctx b′ o′ γ′ ys u room x-is bounds)
           (λ w-is no. out (refused (pl .answer .number) h ys) (refuses h ys (solve k ctx u) no) refl w-is)
-          (λ w-is yes. out (leaves h ys (solve k ctx u) (st .joint) (st .velocities)) (solved h ys k ctx u yes) (write-long pl (st .velocities) ys) w-is)
+          (λ w-is yes. out (leaves h ys (solve k ctx u) (ofSolve st)) (solved h ys k ctx u yes) (write-long pl (st .velocities) ys) w-is)
           #stage C Λ fm known-find known-read known-stage known-write
 
 pub meets : (k : ℕ) (k-fits : T (ltb k (2 ^ 8))) (#stage : Name) {M : Type 1} (𝓤 : URA M) (H : Heap 𝓤) (A : Atoms 𝓤) → Given 𝓤 H A → (mem : Memory → SProp 𝓤) (run : Routine → Fun 𝓤) (𝓣 : Tables 𝓤 H)

@@ -35,12 +35,12 @@ use Rattle.records.specs.declared.joint.JointSim.{JointSim}
 use Rattle.constraint.specs.declared.answer.WarmStarted.{WarmStarted}
 use Rattle.constraint.specs.declared.answer.Solved.{Solved}
 use Rattle.joint.proofs.Stages.{warmStartOf, solveOf}
-use Rattle.direct.specs.declared.places.Places.{Places}
-use Rattle.direct.specs.Steps.{placesOf}
+use Rattle.direct.specs.declared.positions.Positions.{Positions}
+use Rattle.direct.specs.Steps.{positionsOf}
 use Rattle.direct.proofs.Rows.{R, J, X, Wm, G, P, val-s, vals-s, made-s, val-j, vals-j, made-j, val-x, vals-x, made-x, val-m, vals-m, tells-m, val-g, vals-g, tells-g, val-p, vals-p, tells-p}
 use Rattle.direct.proofs.Pure.{calls-pure}
-use Rattle.direct.proofs.places.find_places as find
-use Rattle.direct.proofs.places.find_places.Symbol.{name as #find}
+use Rattle.direct.proofs.positions.find_positions as find
+use Rattle.direct.proofs.positions.find_positions.Symbol.{name as #find}
 
 -- ---- a kind's stage
 
@@ -78,8 +78,8 @@ module _ {M : Type 1} (𝓤 : URA M) (H : Heap 𝓤) (A : Atoms 𝓤) (k : ℕ) 
 -- ---- the calls
 
 module _ {M : Type 1} (𝓤 : URA M) (H : Heap 𝓤) (A : Atoms 𝓤) (W : Given 𝓤 H A) (mem : Memory → SProp 𝓤) (run : Routine → Fun 𝓤) (k : ℕ) (h : JointSim) (n : ℕ) (k-fits : k < 2 ^ 8) (n-fits : n < 2 ^ 64) (h-is : Is J h (vals-j h)) where
-  abbrev found : Places
-  found = placesOf k h n
+  abbrev found : Positions
+  found = positionsOf k h n
 
   abbrev to-find : Find 𝓤 H A mem run .Ghost
   to-find = ((tt, tt, tt, (k, (h, (n, tt))), (vint w8 k ∷ [], (vals-j h, (vint w64 n ∷ [], tt)))), tt)

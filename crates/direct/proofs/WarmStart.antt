@@ -46,22 +46,23 @@ use Rattle.records.specs.declared.joint.JointSim.{JointSim}
 use Rattle.constraint.specs.declared.velocity.Velocities.{Velocities}
 use Rattle.constraint.specs.declared.answer.WarmStarted.{WarmStarted}
 use Rattle.joint.specs.declared.store.StatePair.{StatePair}
+use Rattle.joint.specs.Stage.{staged}
 use Rattle.joint.proofs.Stages.{warmStartOf}
-use Rattle.direct.specs.declared.places.Places.{Places}
-use Rattle.direct.specs.Steps.{placesOf, readStates, writeStates}
+use Rattle.direct.specs.declared.positions.Positions.{Positions}
+use Rattle.direct.specs.Steps.{positionsOf, readStates, writeStates}
 use Rattle.direct.specs.Direct.{warmStart, Outcome, refused, directCall, Leaves}
 use Rattle.records.proofs.joint.JointSim.Laws as Tj′
 use Rattle.constraint.proofs.velocity.Velocities.Laws as Tv′
 use Rattle.constraint.proofs.answer.WarmStarted as Tm
 use Rattle.joint.proofs.store.StatePair.Laws as Tq′
 use Rattle.direct.proofs.Answer.Laws as Tw′
-use Rattle.direct.proofs.places.Places.Laws as Tp′
+use Rattle.direct.proofs.positions.Positions.Laws as Tp′
 use Rattle.direct.proofs.Rows.{R, J, Wm, Wn, val-j, vals-j, tells-j, made-j, typed-j, typed-p, p-answer, typed-q, q-state-a, q-state-b, val-m, vals-m, typed-m, m-velocities, val-w, vals-w, made-w, typed-w}
 use Rattle.direct.proofs.Pieces.{refTo, lends, answers, joint-mir}
 use Rattle.direct.proofs.Calls.{Read, Write, calls-read, calls-write}
 use Rattle.direct.proofs.Stages.{Find, WarmStartOf, calls-find, calls-warm-start}
 use Rattle.direct.proofs.Planned.{write-long, leaves, refuses, warm-started}
-use Rattle.direct.proofs.places.find_places.Symbol.{name as #find}
+use Rattle.direct.proofs.positions.find_positions.Symbol.{name as #find}
 use Rattle.direct.proofs.states.read_states.Symbol.{name as #read}
 use Rattle.direct.proofs.states.write_states.Symbol.{name as #write}
 
@@ -129,8 +130,8 @@ module _ {M : Type 1} (𝓤 : URA M) (H : Heap 𝓤) (A : Atoms 𝓤) (W : Given
   at = (vptr b o ∷ [], (s ∷ [], tt))
 
   -- what is computed on the way
-  abbrev pl : Places
-  pl = placesOf k h n
+  abbrev pl : Positions
+  pl = positionsOf k h n
 
   abbrev ab : StatePair
   ab = readStates pl ys
@@ -225,13 +226,13 @@ module _ {M : Type 1} (𝓤 : URA M) (H : Heap 𝓤) (A : Atoms 𝓤) (W : Given
           ent 𝓤 (onEntry 𝓤 H A signature (κ, (κ′, tt)) (q, (q′, tt)) (record { ptr = (b, o); name = γ; now = h }, (record { ptr = (b′, o′); name = γ′; now = ys }, tt)) (vptr b o ∷ [], (l ∷ [], tt)))
           (WpFn 𝓤 H C Λ (code k #stage) (vptr b o ∷ l ∷ []) (Post 𝓤 H A W mem run k k-fits κ κ′ q q′ b o γ h b′ o′ γ′ ys room bounds))
       one κ κ′ bounds q q′ b o γ h b′ o′ γ′ ys room =
-          let pl = placesOf k h (length ys) in
+          let pl = positionsOf k h (length ys) in
           let ab = readStates pl ys in
           let wm = warmStartOf k h (ab .«state_a») (ab .«state_b») in
           let out = exits 𝓤 H A W mem run k k-fits κ κ′ q q′ b o γ h b′ o′ γ′ ys room bounds in
           walk 𝓤 H A W mem run k k-fits κ κ′ q q′ b o γ h b′ o′ γ′ ys room Tj′.mir (Tm.the-type .name) warmed-fields refl joint-mir (typed-j 𝓤 H A W h) (typed-m 𝓤 H A W wm) (Post 𝓤 H A W mem run k k-fits κ κ′ q q′ b o γ h b′ o′ γ′ ys room bounds)
           (λ w-is no. out (refused (pl .answer .number) h ys) (refuses h ys (warmStart k) no) refl refl w-is)
-          (λ w-is yes. out (leaves h ys (warmStart k) h (wm .velocities)) (warm-started h ys k yes) refl (write-long pl (wm .velocities) ys) w-is)
+          (λ w-is yes. out (leaves h ys (warmStart k) (staged h (wm .velocities))) (warm-started h ys k yes) refl (write-long pl (wm .velocities) ys) w-is)
           #stage C Λ fm known-find known-read known-stage known-write
 
 pub meets : (k : ℕ) (k-fits : T (ltb k (2 ^ 8))) (#stage : Name) {M : Type 1} (𝓤 : URA M) (H : Heap 𝓤) (A : Atoms 𝓤) → Given 𝓤 H A → (mem : Memory → SProp 𝓤) (run : Routine → Fun 𝓤) (𝓣 : Tables 𝓤 H)

@@ -1,5 +1,5 @@
--- What holds of every direct call, in document 01's words, and of a call list of that one call. Statements only: each is proved in Proved.antt, under the same
--- name in small letters. Assumes nothing.
+-- What holds of every direct call, in document 01's words, and of a call list of that one call. Statements only: each is proved in proofs/Proved.antt,
+-- under the same name in small letters. Assumes nothing.
 use mathlib.Core.Path.{_≡_}
 use mathlib.Core.Logic.{_⊎_, _≢_, _↔_}
 use mathlib.Core.Bool.{Bool, true, false}
@@ -23,7 +23,7 @@ use Rattle.joint.specs.Store.{statePair, storePair}
 use Rattle.scene.specs.Scene.{jointAt, stateAt, NamesBody}
 use Rattle.scene.specs.Plain.{storeBoth, plainRun}
 use Rattle.scene.specs.Claims.{OutOf, Test, test, NoCause, FirstCause, OnlyVelocities, OnlyImpulses, LimitsNonNegative}
-use Rattle.direct.specs.declared.call.Call.{Call}
+use Rattle.direct.specs.declared.call.StageCall.{StageCall}
 use Rattle.direct.specs.Direct.{warmStart, solve, Outcome, directCall}
 
 -- ==== Numbers
@@ -39,28 +39,28 @@ abbrev pub Cause3 : ℕ → JointUnion → Type 0
 Cause3 bodyCount union = OutOf bodyCount (indexB union)
 
 -- 'a direct stage call tests 1, 2, 3 and has place 0; its body count is the length of the lent slice'
-abbrev pub tests : Call → JointSim → List BodyState → List Test
+abbrev pub tests : StageCall → JointSim → List BodyState → List Test
 tests call joint states =
     let union = joint .«union_» in
     test 1 0 (Cause1 (call .kind) union) ∷ test 2 0 (Cause2 (length states) union) ∷ test 3 0 (Cause3 (length states) union) ∷ []
 
 -- A number other than 0 stands exactly when its cause is the first that holds.
 abbrev pub Numbers : Type 0
-Numbers = (call : Call) (joint : JointSim) (states : List BodyState) (number : ℕ) → number ≢ 0
+Numbers = (call : StageCall) (joint : JointSim) (states : List BodyState) (number : ℕ) → number ≢ 0
     → (directCall call joint states .answer .number ≡ number) ↔ FirstCause (tests call joint states) number 0
 
 -- Number 0 stands exactly when no cause holds. The place is always 0.
 abbrev pub Acceptance : Type 0
-Acceptance = (call : Call) (joint : JointSim) (states : List BodyState)
+Acceptance = (call : StageCall) (joint : JointSim) (states : List BodyState)
     → ((directCall call joint states .answer .number ≡ 0) ↔ NoCause (tests call joint states)) × (directCall call joint states .answer .place ≡ 0)
 
 -- No number but 0 to 3 is answered.
 abbrev pub Range : Type 0
-Range = (call : Call) (joint : JointSim) (states : List BodyState) → directCall call joint states .answer .number ≤ 3
+Range = (call : StageCall) (joint : JointSim) (states : List BodyState) → directCall call joint states .answer .number ≤ 3
 
 -- A refused call leaves joint and states as they were.
 abbrev pub Refusal : Type 0
-Refusal = (call : Call) (joint : JointSim) (states : List BodyState)
+Refusal = (call : StageCall) (joint : JointSim) (states : List BodyState)
     → directCall call joint states .answer .number ≢ 0
     → (directCall call joint states .joint ≡ joint) × (directCall call joint states .states ≡ states)
 
@@ -76,7 +76,7 @@ pub record OnlyChanges (joint : JointSim) (states : List BodyState) (after : Out
 
 -- Whatever the call, it changes nothing else.
 abbrev pub Changes : Type 0
-Changes = (call : Call) (joint : JointSim) (states : List BodyState) → OnlyChanges joint states (directCall call joint states)
+Changes = (call : StageCall) (joint : JointSim) (states : List BodyState) → OnlyChanges joint states (directCall call joint states)
 
 -- A warm start leaves the joint as it was, whatever its kind.
 abbrev pub WarmStartKeeps : Type 0
@@ -101,17 +101,17 @@ PairStored = (states : List BodyState) (union : JointUnion) (v : Velocities) →
 -- 'So if both indices name one dynamic body, B's velocities remain': where an accepted call's two indices name one dynamic state, it has at exit the velocities
 -- that the stage gives B, where that one state was read both for A and for B, and is otherwise as it was. (Accepted, the index is below the number of states.)
 abbrev pub OneBodyTwice : Type 0
-OneBodyTwice = (call : Call) (joint : JointSim) (states : List BodyState) (n : ℕ)
+OneBodyTwice = (call : StageCall) (joint : JointSim) (states : List BodyState) (n : ℕ)
     → indexA (joint .«union_») ≡ pos n → indexB (joint .«union_») ≡ pos n → isDynamic (stateAt states (pos n)) ≡ true
     → directCall call joint states .answer .number ≡ 0
     → let x = stateAt states (pos n) in
-    let v = stageJoint (joint .«union_») (joint .base) (call .h) (call .«inv_h») x x (call .stage) .velocities in
+    let v = stageJoint joint (call .context) x x (call .stage) .velocities in
     stateAt (directCall call joint states .states) (pos n) ≡ withVelocities x (v .«v_b») (v .«w_b»)
 
 -- ==== A list of one call
 
 -- the direct call of a stage of a list
-abbrev pub callOf : ℕ → ℕ → StepContext → Call
+abbrev pub callOf : ℕ → ℕ → StepContext → StageCall
 callOf kind zero context = warmStart kind
 callOf kind (suc zero) context = solve kind context true
 callOf kind (suc (suc n)) context = solve kind context false
@@ -147,8 +147,8 @@ OneCall = (s : Scene) (slot stage kind : ℕ) → Callable s slot stage → OfKi
 -- ==== Limits
 
 -- After each direct solve that is not refused, of a joint whose rotation is not fixed, its enabled limits' impulses are zero or positive, never a NaN.
-abbrev pub Limits : Type 0
-Limits = (kind : ℕ) (context : StepContext) (useBias : Bool) (joint : JointSim) (states : List BodyState)
+abbrev pub LimitsAfterCall : Type 0
+LimitsAfterCall = (kind : ℕ) (context : StepContext) (useBias : Bool) (joint : JointSim) (states : List BodyState)
     → directCall (solve kind context useBias) joint states .answer .number ≡ 0
     → joint .base .«fixed_rotation» ≡ false
     → LimitsNonNegative (joint .«union_») (directCall (solve kind context useBias) joint states .joint .«union_»)

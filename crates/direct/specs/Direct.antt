@@ -6,19 +6,18 @@ use mathlib.Core.List.{List}
 use Prim.Native.Nat.{ℕ}
 use lib.Dec.{eqb}
 use lib.ListN.{length}
-use Rattle.math_functions.specs.Float as Float
 use Rattle.solver.specs.declared.StepContext.{StepContext}
+use Rattle.solver.specs.Solver.{defaultContext}
 use Rattle.records.specs.declared.body.BodyState.{BodyState}
 use Rattle.records.specs.declared.joint.JointUnion.{JointUnion}
 use Rattle.records.specs.declared.joint.JointUnion.the-variants.{Revolute, Spherical, Weld, Other}
 use Rattle.records.specs.declared.joint.JointSim.{JointSim}
-use Rattle.records.specs.Joint.{jointSim}
 use Rattle.joint.specs.Stage.{Staged, stageJoint}
 use Rattle.joint.specs.Index.{indexA, indexB, indexCause}
 use Rattle.scene.specs.Scene.{stateAt}
 use Rattle.scene.specs.Plain.{storeBoth}
 use Rattle.direct.specs.declared.Answer.{Answer}
-use Rattle.direct.specs.declared.call.Call.{Call}
+use Rattle.direct.specs.declared.call.StageCall.{StageCall}
 
 -- ---- what is called
 
@@ -32,13 +31,13 @@ spherical = 1
 abbrev pub weld : ℕ
 weld = 2
 
--- a warm start of a kind: stage 0, which reads no step context
-abbrev pub warmStart : ℕ → Call
-warmStart kind = record { kind = kind; stage = 0; h = Float.zero; «inv_h» = Float.zero }
+-- a warm start of a kind: stage 0, which reads no step context, so that any will do
+abbrev pub warmStart : ℕ → StageCall
+warmStart kind = record { kind = kind; stage = 0; context = defaultContext }
 
 -- a solve of a kind: stage 1 with bias, stage 2 without
-abbrev pub solve : ℕ → StepContext → Bool → Call
-solve kind context useBias = record { kind = kind; stage = cond useBias 1 2; h = context .h; «inv_h» = context .«inv_h» }
+abbrev pub solve : ℕ → StepContext → Bool → StageCall
+solve kind context useBias = record { kind = kind; stage = cond useBias 1 2; context = context }
 
 -- ---- its tests
 
@@ -56,7 +55,7 @@ cause kind union bodyCount = cond (isOfKind kind union) (indexCause bodyCount un
 
 -- ---- what it does
 
--- the answer, and the joint and the states as they are left
+-- the answer, and the joint and the states as the call leaves them
 pub record Outcome : Type 0 where
   pub answer : Answer
   pub joint : JointSim
@@ -71,22 +70,17 @@ abbrev pub refused : ℕ → JointSim → List BodyState → Outcome
 refused number joint states = record { answer = answerOf number; joint = joint; states = states }
 
 -- the stage of the joint, on the states at its two indices: 'both states are read first', and -1 reads the identity state
-abbrev pub stageAt : Call → JointSim → List BodyState → Staged
+abbrev pub stageAt : StageCall → JointSim → List BodyState → Staged
 stageAt call joint states =
     let union = joint .«union_» in
-    stageJoint union (joint .base) (call .h) (call .«inv_h») (stateAt states (indexA union)) (stateAt states (indexB union)) (call .stage)
+    stageJoint joint (call .context) (stateAt states (indexA union)) (stateAt states (indexB union)) (call .stage)
 
--- 'stored back, A then B, only if dynamic'; -1 is never written, and only velocities change
+-- the joint that the stage leaves, and the states 'stored back, A then B, only if dynamic'; -1 is never written, and only velocities change
 abbrev pub done : JointSim → List BodyState → Staged → Outcome
-done joint states r =
-    record {
-      answer = answerOf 0;
-      joint = jointSim (joint .base) (r .«union_»);
-      states = storeBoth states (joint .«union_») (r .velocities);
-    }
+done joint states r = record { answer = answerOf 0; joint = r .joint; states = storeBoth states (joint .«union_») (r .velocities) }
 
 -- a direct call: 'its body count is the length of the lent slice'
-unfoldable pub directCall : Call → JointSim → List BodyState → Outcome
+unfoldable pub directCall : StageCall → JointSim → List BodyState → Outcome
 directCall call joint states =
     let number = cause (call .kind) (joint .«union_») (length states) in
     cond (eqb number 0) (done joint states (stageAt call joint states)) (refused number joint states)

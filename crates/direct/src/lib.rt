@@ -2,7 +2,7 @@
 // makes its tests, works the stage of its own kind on copies, and stores what the stage changed. One that
 // is refused stores nothing.
 ghost use Rattle.direct.specs.Direct as D;
-use crate::places::find_places;
+use crate::positions::find_positions;
 use crate::states::read_states;
 use crate::states::write_states;
 use records::body::BodyState;
@@ -10,7 +10,7 @@ use records::joint::JointSim;
 use solver::StepContext;
 
 mod call;
-mod places;
+mod positions;
 mod states;
 
 // What a direct call answers: a number, which is 0 where the work was done, and place 0.
@@ -23,42 +23,42 @@ pub fn warm_start_revolute_joint(joint: &mut JointSim, states: &mut [BodyState])
     ensures { λ r. ⌜ D.Leaves (D.directCall (D.warmStart D.revolute) (now (joint .entry)) (now (states .entry))) r (now (joint .exit)) (now (states .exit)) ⌝ }
 {
     let n = states.len();
-    let places = find_places(0, *joint, n);
-    if places.answer.number != 0 {
-        return places.answer;
+    let positions = find_positions(0, *joint, n);
+    if positions.answer.number != 0 {
+        return positions.answer;
     }
-    let pair = read_states(states, places);
+    let pair = read_states(states, positions);
     let s = revolute::warm_start_revolute_joint(*joint, pair.state_a, pair.state_b);
-    write_states(states, places, s.velocities);
-    places.answer
+    write_states(states, positions, s.velocities);
+    positions.answer
 }
 
 pub fn warm_start_spherical_joint(joint: &mut JointSim, states: &mut [BodyState]) -> Answer
     ensures { λ r. ⌜ D.Leaves (D.directCall (D.warmStart D.spherical) (now (joint .entry)) (now (states .entry))) r (now (joint .exit)) (now (states .exit)) ⌝ }
 {
     let n = states.len();
-    let places = find_places(1, *joint, n);
-    if places.answer.number != 0 {
-        return places.answer;
+    let positions = find_positions(1, *joint, n);
+    if positions.answer.number != 0 {
+        return positions.answer;
     }
-    let pair = read_states(states, places);
+    let pair = read_states(states, positions);
     let s = spherical::warm_start_spherical_joint(*joint, pair.state_a, pair.state_b);
-    write_states(states, places, s.velocities);
-    places.answer
+    write_states(states, positions, s.velocities);
+    positions.answer
 }
 
 pub fn warm_start_weld_joint(joint: &mut JointSim, states: &mut [BodyState]) -> Answer
     ensures { λ r. ⌜ D.Leaves (D.directCall (D.warmStart D.weld) (now (joint .entry)) (now (states .entry))) r (now (joint .exit)) (now (states .exit)) ⌝ }
 {
     let n = states.len();
-    let places = find_places(2, *joint, n);
-    if places.answer.number != 0 {
-        return places.answer;
+    let positions = find_positions(2, *joint, n);
+    if positions.answer.number != 0 {
+        return positions.answer;
     }
-    let pair = read_states(states, places);
+    let pair = read_states(states, positions);
     let s = weld::warm_start_weld_joint(*joint, pair.state_a, pair.state_b);
-    write_states(states, places, s.velocities);
-    places.answer
+    write_states(states, positions, s.velocities);
+    positions.answer
 }
 
 pub fn solve_revolute_joint(
@@ -70,15 +70,15 @@ pub fn solve_revolute_joint(
     ensures { λ r. ⌜ D.Leaves (D.directCall (D.solve D.revolute context «use_bias») (now (joint .entry)) (now (states .entry))) r (now (joint .exit)) (now (states .exit)) ⌝ }
 {
     let n = states.len();
-    let places = find_places(0, *joint, n);
-    if places.answer.number != 0 {
-        return places.answer;
+    let positions = find_positions(0, *joint, n);
+    if positions.answer.number != 0 {
+        return positions.answer;
     }
-    let pair = read_states(states, places);
+    let pair = read_states(states, positions);
     let s = revolute::solve_revolute_joint(*joint, context, pair.state_a, pair.state_b, use_bias);
     *joint = s.joint;
-    write_states(states, places, s.velocities);
-    places.answer
+    write_states(states, positions, s.velocities);
+    positions.answer
 }
 
 pub fn solve_spherical_joint(
@@ -90,15 +90,15 @@ pub fn solve_spherical_joint(
     ensures { λ r. ⌜ D.Leaves (D.directCall (D.solve D.spherical context «use_bias») (now (joint .entry)) (now (states .entry))) r (now (joint .exit)) (now (states .exit)) ⌝ }
 {
     let n = states.len();
-    let places = find_places(1, *joint, n);
-    if places.answer.number != 0 {
-        return places.answer;
+    let positions = find_positions(1, *joint, n);
+    if positions.answer.number != 0 {
+        return positions.answer;
     }
-    let pair = read_states(states, places);
+    let pair = read_states(states, positions);
     let s = spherical::solve_spherical_joint(*joint, context, pair.state_a, pair.state_b, use_bias);
     *joint = s.joint;
-    write_states(states, places, s.velocities);
-    places.answer
+    write_states(states, positions, s.velocities);
+    positions.answer
 }
 
 pub fn solve_weld_joint(
@@ -110,13 +110,13 @@ pub fn solve_weld_joint(
     ensures { λ r. ⌜ D.Leaves (D.directCall (D.solve D.weld context «use_bias») (now (joint .entry)) (now (states .entry))) r (now (joint .exit)) (now (states .exit)) ⌝ }
 {
     let n = states.len();
-    let places = find_places(2, *joint, n);
-    if places.answer.number != 0 {
-        return places.answer;
+    let positions = find_positions(2, *joint, n);
+    if positions.answer.number != 0 {
+        return positions.answer;
     }
-    let pair = read_states(states, places);
+    let pair = read_states(states, positions);
     let s = weld::solve_weld_joint(*joint, context, pair.state_a, pair.state_b, use_bias);
     *joint = s.joint;
-    write_states(states, places, s.velocities);
-    places.answer
+    write_states(states, positions, s.velocities);
+    positions.answer
 }

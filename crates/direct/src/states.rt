@@ -3,7 +3,7 @@ ghost use mathlib.Core.Path.{_≡_};
 ghost use lib.ListN.{getD};
 ghost use Rattle.records.specs.Body as B;
 ghost use Rattle.direct.specs.Steps as S;
-use crate::places::Places;
+use crate::positions::Positions;
 use constraint::velocity::Velocities;
 use joint::store::StatePair;
 use math_functions::types::Vec3;
@@ -19,42 +19,42 @@ fn identity_state() -> BodyState
     IDENTITY_BODY_STATE
 }
 
-// The state at a place, or the identity state past the end.
-pub fn load_state(states: &mut [BodyState], place: usize) -> BodyState
-    ensures { λ r. ⌜ (r ≡ getD (now (states .entry)) place B.identityBodyState) × (now (states .exit) ≡ now (states .entry)) ⌝ }
+// The state at a position, or the identity state past the end.
+fn load_state(states: &mut [BodyState], position: usize) -> BodyState
+    ensures { λ r. ⌜ (r ≡ getD (now (states .entry)) position B.identityBodyState) × (now (states .exit) ≡ now (states .entry)) ⌝ }
 {
-    if place < states.len() {
-        return states[place];
+    if position < states.len() {
+        return states[position];
     }
     identity_state()
 }
 
-// New velocities for the state at a place, if it is dynamic. Past the end nothing is stored. The state is
+// New velocities for the state at a position, if it is dynamic. Past the end nothing is stored. The state is
 // read here, where it is plain that all but the velocities stays: only they are stored.
-pub fn store_state(states: &mut [BodyState], place: usize, v: Vec3, w: Vec3)
-    ensures { λ _. ⌜ now (states .exit) ≡ S.storeAt place v w (now (states .entry)) ⌝ }
+fn store_state(states: &mut [BodyState], position: usize, v: Vec3, w: Vec3)
+    ensures { λ _. ⌜ now (states .exit) ≡ S.storeAt position v w (now (states .entry)) ⌝ }
 {
-    if place < states.len() {
-        let state = states[place];
+    if position < states.len() {
+        let state = states[position];
         let stored = store_velocities(state, v, w);
-        states[place] = stored;
+        states[position] = stored;
         return;
     }
 }
 
 // Both states are read.
-pub fn read_states(states: &mut [BodyState], places: Places) -> StatePair
-    ensures { λ r. ⌜ (r ≡ S.readStates places (now (states .entry))) × (now (states .exit) ≡ now (states .entry)) ⌝ }
+pub fn read_states(states: &mut [BodyState], positions: Positions) -> StatePair
+    ensures { λ r. ⌜ (r ≡ S.readStates positions (now (states .entry))) × (now (states .exit) ≡ now (states .entry)) ⌝ }
 {
-    let state_a = load_state(states, places.a);
-    let state_b = load_state(states, places.b);
+    let state_a = load_state(states, positions.a);
+    let state_b = load_state(states, positions.b);
     StatePair { state_a, state_b }
 }
 
 // A is stored, then B.
-pub fn write_states(states: &mut [BodyState], places: Places, velocities: Velocities)
-    ensures { λ _. ⌜ now (states .exit) ≡ S.writeStates places velocities (now (states .entry)) ⌝ }
+pub fn write_states(states: &mut [BodyState], positions: Positions, velocities: Velocities)
+    ensures { λ _. ⌜ now (states .exit) ≡ S.writeStates positions velocities (now (states .entry)) ⌝ }
 {
-    store_state(states, places.a, velocities.v_a, velocities.w_a);
-    store_state(states, places.b, velocities.v_b, velocities.w_b);
+    store_state(states, positions.a, velocities.v_a, velocities.w_a);
+    store_state(states, positions.b, velocities.v_b, velocities.w_b);
 }

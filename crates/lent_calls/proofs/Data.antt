@@ -3,7 +3,7 @@
 --     Data             the type's row, its MIR type and a value's machine value, and the laws of these
 --     struct, array    of a declared struct; of an array
 --     Of, Fits, typed  a value is related to its machine value; a machine value is of a MIR type; of the one follows the other
---     lies-in, lies-out    a cell that holds a value's machine value is the value in memory; and back, with `Of`
+--     cell-to-part, part-to-cell    a cell that holds a value's machine value is the value in memory; and back, with `Of`
 -- Assumes nothing, but for `struct`, `array` and the last two, which assume `Given`.
 use mathlib.Core.Path.{_≡_, refl, sym, ap, subst}
 use Prim.Native.Nat.{ℕ}
@@ -72,18 +72,18 @@ module _ {M : Type 1} {𝓤 : URA M} {H : Heap 𝓤} {A : Atoms 𝓤} (d : Data 
   typed y is = subst (λ (τs : List Ty). Typed τs (d .val y ∷ [])) (d .mir-is) (d .lawful .typed y _ is) .0
 
   module _ (W : Given 𝓤 H A) (y : d .row .Denot) (b o : ℕ) where
-    pub lies-in : Of y → ent 𝓤 (sem 𝓤 H A (fat fullShare (d .ty) b o (d .val y))) (sem 𝓤 H A (partAt (d .row) fullShare y b o))
+    pub cell-to-part : Of y → ent 𝓤 (sem 𝓤 H A (fat fullShare (d .ty) b o (d .val y))) (sem 𝓤 H A (partAt (d .row) fullShare y b o))
     unfolding partOf
-    lies-in is =
+    cell-to-part is =
         qed W (‵ (fat fullShare (d .ty) b o (d .val y)) ∷ []) ∵
         use1 W (‵ (cellAt fullShare (d .ty ∷ []) (d .val y ∷ []) b o)) (W .laws .at-raw fullShare (d .ty) b o (d .val y)) $
         rewrite ! 0 (λ (τs : List Ty). ‵ (cellAt fullShare τs (d .val y ∷ []) b o)) (sym (d .mir-is)) refl $
         owned ! (d .row) (Is (d .row)) (d .makes) y _ is $ move ! (1 ∷ 0 ∷ []) $ fjoin ! $
         fpack ! (List Val) (λ vs. fsep (cellAt fullShare (d .row .mir) vs b o) (d .row .own y vs)) (d .val y ∷ []) $ done !
 
-    pub lies-out : ent 𝓤 (sem 𝓤 H A (partAt (d .row) fullShare y b o)) (guard 𝓤 (Of y) (sem 𝓤 H A (fat fullShare (d .ty) b o (d .val y))))
+    pub part-to-cell : ent 𝓤 (sem 𝓤 H A (partAt (d .row) fullShare y b o)) (guard 𝓤 (Of y) (sem 𝓤 H A (fat fullShare (d .ty) b o (d .val y))))
     unfolding partOf
-    lies-out =
+    part-to-cell =
         qed W (‵ (partAt (d .row) fullShare y b o) ∷ []) ∵ fpick ! (λ vs. fsplit ! $
         spelt ! (d .row) (Is (d .row)) (shows 𝓤 H A (d .row)) (λ x. d .val x ∷ []) (d .tells) fullShare y vs b o $ move ! (1 ∷ []) $
         facts ! (d .row) (Is (d .row)) (shows 𝓤 H A (d .row)) y (d .val y ∷ []) (λ is.

@@ -42,7 +42,7 @@ use denote.Triple.Call.{calls-at}
 use borrow.Table.Elements.{at, cut-app, join-app}
 use borrow.Rule.Array.Share.{room-take}
 use borrow.Rule.Slice.Shared.{parts-cells}
-use Rattle.lent_calls.proofs.Data.{Data, array, Of, lies-in, lies-out}
+use Rattle.lent_calls.proofs.Data.{Data, array, Of, cell-to-part, part-to-cell}
 
 -- a `&mut` on the value x in the local b
 abbrev Ref : (J : RattleType) → ℕ → J .Denot → ℕ → GName → Fml
@@ -119,7 +119,7 @@ module _ {M : Type 1} (𝓤 : URA M) (H : Heap 𝓤) (A : Atoms 𝓤) (W : Given
 
   lends-array : (β : ℕ) → Of a ys → ent 𝓤 (sem 𝓤 H A (fat fullShare (a .ty) b′ 0 (a .val ys))) (mean 𝓤 H A (Lent β))
   lends-array β is =
-      qed W (‵ (fat fullShare (a .ty) b′ 0 (a .val ys)) ∷ []) ∵ updating ! $ use1 W (‵ (partAt (a .row) fullShare ys b′ 0)) (lies-in a W ys b′ 0 is) $
+      qed W (‵ (fat fullShare (a .ty) b′ 0 (a .val ys)) ∷ []) ∵ updating ! $ use1 W (‵ (partAt (a .row) fullShare ys b′ 0)) (cell-to-part a W ys b′ 0 is) $
       use1 W (‵ (arr-parts (shares R) n .part fullShare ys b′ 0)) (array-apart 𝓤 H A W R fullShare single n ys b′ 0) $ fsplit ! $ feqL ! (λ l.
       rewrite ! 0 (λ (G : Fml). ‵ G) (parts-cells R fullShare ys b′ 0) refl $
       rewrite ! 0 (λ (zs : List (R .Denot)). ‵ (cells (mem R) zs b′ 0)) (sym (take-append-drop k ys)) refl $
@@ -142,7 +142,7 @@ module _ {M : Type 1} (𝓤 : URA M) (H : Heap 𝓤) (A : Atoms 𝓤) (W : Given
       rewrite ! 0 (λ (G : Fml). ‵ G) (sym (parts-cells R fullShare (zs ++ drop-list k ys) b′ 0)) refl $
       feqI ! ℕ (length (zs ++ drop-list k ys)) n (length-front ys zs k (e ∙ sym m-is) ∙ l) $ fjoin ! $
       use1 W (‵ (partAt (a .row) fullShare (zs ++ drop-list k ys) b′ 0)) (array-whole 𝓤 H A W R fullShare n (zs ++ drop-list k ys) b′ 0) $
-      use1 W (Back zs) (lies-out a W (zs ++ drop-list k ys) b′ 0) $ at-once ! $ done !)
+      use1 W (Back zs) (part-to-cell a W (zs ++ drop-list k ys) b′ 0) $ at-once ! $ done !)
 
   -- ---- the call
 
@@ -175,7 +175,7 @@ module _ {M : Type 1} (𝓤 : URA M) (H : Heap 𝓤) (A : Atoms 𝓤) (W : Given
           → (Of w r′ → Of j h′ → Of a (zs ++ drop-list k ys) → Seq K W (Cells h′ (zs ++ drop-list k ys) Γ) (lands C Λ E d (w .val r′) rest p))
           → Seq K W (Cells h ys Γ) (runs C Λ E (seq (call f xs d) rest) p)
       calls-lending t fm c j-is a-is os k′ =
-          lft-new t tt (λ α. lft-new t tt (λ β. move t (2 ∷ []) $ use1 W (‵ (partAt J fullShare h b 0)) (lies-in j W h b 0 j-is) $
+          lft-new t tt (λ α. lft-new t tt (λ β. move t (2 ∷ []) $ use1 W (‵ (partAt J fullShare h b 0)) (cell-to-part j W h b 0 j-is) $
           use1 W (RefTo α) (lends-ref 𝓤 H A W J (named 0) (α ∷ []) h b 0) $ await t tt $ pick t (λ γ. split t $ move t (4 ∷ []) $
           use1 W (Lent β) (lends-array β a-is) $ await t tt $ pick t (λ γ′. split t $
           -- [the slice; what the array's lender keeps; the reference; what the value's lender keeps; β's token; α's token; Γ]
@@ -191,5 +191,5 @@ module _ {M : Type 1} (𝓤 : URA M) (H : Heap 𝓤) (A : Atoms 𝓤) (W : Given
           -- [β is over; α is over; what the value's lender keeps; what the array's keeps; the last list; the last value; Γ]
           move t (0 ∷ 4 ∷ 3 ∷ []) $ use3 W (later (Back zs)) (array-back (a-is .1 .0 .1) β γ′ zs) $ await t tt $ learn t (λ a′-is.
           move t (1 ∷ 2 ∷ 3 ∷ []) $ use3 W (later (‵ (partAt J fullShare h′ b 0))) (ref-back 𝓤 H A W J (α ∷ []) γ h′ b 0) $ await t tt $
-          use1 W (given (Of j h′) (‵ (fat fullShare (j .ty) b 0 (j .val h′)))) (lies-out j W h′ b 0) $ learn t (λ j′-is.
+          use1 W (given (Of j h′) (‵ (fat fullShare (j .ty) b 0 (j .val h′)))) (part-to-cell j W h′ b 0) $ learn t (λ j′-is.
           lands-known v is (λ w-is. k′ w-is j′-is a′-is)))))))))

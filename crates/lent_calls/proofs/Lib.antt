@@ -1,3 +1,4 @@
+pub mod OneCall
 pub mod Data
 pub mod Lends
 pub mod Pieces

@@ -1,6 +1,6 @@
 -- What the functions do from the first call on: a callee is called again and again, each time on what the call before it left in the two locals that are lent
 -- to it, and what was answered and left last is put together. It is over any types, any callee and any parameters, and says nothing of the crate.
---     Left             what calls have answered and left
+--     AfterCalls       what calls have answered and left
 --     Sound, Reached   that is of its types; the loop's variant, how many calls are made
 --     Begun, At        what the function has before the first call, and before a turn.        Leaving      when it returns
 --     Calling          what else it has at a call: the operands are read there
@@ -35,12 +35,12 @@ use Rattle.lent_calls.proofs.Data.{Fits, Data, array, Of, typed}
 use Rattle.lent_calls.proofs.Pieces.{refTo, calls, more, turn, gives, goes-on, begin}
 use Rattle.lent_calls.proofs.Lends.{Callee, Keeps, calls-lending}
 
-pub record Left {M : Type 1} (𝓤 : URA M) (H : Heap 𝓤) (A : Atoms 𝓤) (j r w : Data 𝓤 H A) : Type 0 where
+pub record AfterCalls {M : Type 1} (𝓤 : URA M) (H : Heap 𝓤) (A : Atoms 𝓤) (j r w : Data 𝓤 H A) : Type 0 where
   pub answer : w .row .Denot
   pub joint : j .row .Denot
   pub states : List (r .row .Denot)
 
-pub record Sound {M : Type 1} (𝓤 : URA M) (H : Heap 𝓤) (A : Atoms 𝓤) (W : Given 𝓤 H A) (j r w : Data 𝓤 H A) (size : ℕ) (x : Left 𝓤 H A j r w) : Type 0 where
+pub record Sound {M : Type 1} (𝓤 : URA M) (H : Heap 𝓤) (A : Atoms 𝓤) (W : Given 𝓤 H A) (j r w : Data 𝓤 H A) (size : ℕ) (x : AfterCalls 𝓤 H A j r w) : Type 0 where
   pub answer-is : Of w (x .answer)
   pub joint-is : Of j (x .joint)
   pub states-is : Of (array 𝓤 H A W r size) (x .states)
@@ -60,11 +60,11 @@ module _ {M : Type 1} (𝓤 : URA M) (H : Heap 𝓤) (A : Atoms 𝓤) (W : Given
   ρs = sliceTy (refTo (r .row))
 
   -- the machine value of the result that is made of what is left
-  abbrev pub value : Left 𝓤 H A j r w → Val
+  abbrev pub value : AfterCalls 𝓤 H A j r w → Val
   value x = vstruct (ofList (w .val (x .answer) ∷ j .val (x .joint) ∷ a .val (x .states) ∷ []))
 
   -- of n calls, what so many leave: k elements are lent to each, as a slice of c, and `lent` is what it leaves of them. τ is the type of the result
-  module _ (room : Room (r .row) size) (τ : Ty) (k c n : ℕ) (after : ℕ → Left 𝓤 H A j r w) (lent : ℕ → List (r .row .Denot))
+  module _ (room : Room (r .row) size) (τ : Ty) (k c n : ℕ) (after : ℕ → AfterCalls 𝓤 H A j r w) (lent : ℕ → List (r .row .Denot))
       (one-more : (i : ℕ) → lent i ++ drop k (after i .states) ≡ after (suc i) .states) (c-fits : c < 2 ^ 64) (n-fits : n < 2 ^ 64)
       (as-many : (ys : List (r .row .Denot)) → length ys ≡ size → length (take k ys) ≡ c) where
     abbrev Good : ℕ → Type 0
@@ -96,7 +96,7 @@ module _ {M : Type 1} (𝓤 : URA M) (H : Heap 𝓤) (A : Atoms 𝓤) (W : Given
       Spotted : ℕ → ℕ → Type 0
       Spotted q i = spotOf 𝓤 H En (q + i) ≡ spotOf 𝓤 H own i
 
-      -- the local that is i behind the last parameter
+      -- the local that is i after the last parameter
       there : {K : Type 0} {Γ : List (Item 𝓤)} → K → (i : ℕ) {sp : Spot 𝓤 H} → spotOf 𝓤 H own i ≡ sp → Finds K W Γ En (place (p + i) []) sp
       unfolding Spotted
       there {K} {Γ} t i e =
@@ -176,11 +176,11 @@ module _ {M : Type 1} (𝓤 : URA M) (H : Heap 𝓤) (A : Atoms 𝓤) (W : Given
             (result : (i : ℕ) → Good i → Fits τ (value (after i)))
             (leave : (i : ℕ) → Good i → i ≡ n → Sq W Leaving (frees En (prop (Post (value (after i)))))) where
           -- a turn makes one call more, or the loop is left and the rest of the body runs
-          abbrev Turned : Reached → Out → SProp 𝓤
-          Turned x = afterTurn 𝓤 H (Below 𝓤 H A Nearer At x)
+          abbrev AfterTurn : Reached → Out → SProp 𝓤
+          AfterTurn x = afterTurn 𝓤 H (Below 𝓤 H A Nearer At x)
               (afterBlock 𝓤 H (afterSeq 𝓤 H (Wp 𝓤 H (𝓣 .C) (𝓣 .Λ) En (gives p) (atReturn 𝓤 H En Post)) (atReturn 𝓤 H En Post)))
 
-          turns : (x : Reached) → Sq W (At x) (runs (𝓣 .C) (𝓣 .Λ) En (turn f xs p) (anyQ (Turned x)))
+          turns : (x : Reached) → Sq W (At x) (runs (𝓣 .C) (𝓣 .Λ) En (turn f xs p) (anyQ (AfterTurn x)))
           unfolding afterTurn
           turns x =
               assigns ! (bin ! (load ! (here ! 5) (look ! 3 refl)) (load ! (here ! 0) (look ! 4 refl)) tt) (here ! 10) (init ! 9 refl (tt, tt)) $
@@ -188,7 +188,7 @@ module _ {M : Type 1} (𝓤 : URA M) (H : Heap 𝓤) (A : Atoms 𝓤) (W : Given
               (λ is.
               let less : x .made < n = ltb→lt (x .made) n is in
               let fits : x .made + 1 < 2 ^ 64 = rw (add-one (x .made)) (lt-of-le-of-lt less n-fits) in
-              skips ! $ exec ! (𝓣 .C) (𝓣 .Λ) En (more f xs p) (anyQ (Turned x)) $ forget ! 9 refl $
+              skips ! $ exec ! (𝓣 .C) (𝓣 .Λ) En (more f xs p) (anyQ (AfterTurn x)) $ forget ! 9 refl $
               makes-call 10 l₁₁ l₁₂ l₁₃ Later refl refl refl (x .made) later-operands (x .sound) (λ s.
               assigns-last ! (bin ! (load ! (here ! 5) (look ! 3 refl)) (lit ! tt) (record { fits = fits })) (here ! 5)
               (store ! 3 refl (tt, record { fits = fits })) $

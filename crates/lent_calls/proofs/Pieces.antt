@@ -2,7 +2,7 @@
 --     body, locals     the body, and the locals after the parameters
 --     begin            from the first call on.        turn, more       a turn of the loop, and what it does where there is a call to make
 --     goes-on, gives   the loop and what stands after it, and the latter
--- p is the local of the last parameter, which says how often the callee f is called. Behind it stand 1 the joint, 2 the states, 3 the count of those that
+-- p is the local of the last parameter, which says how often the callee f is called. After it stand 1 the joint, 2 the states, 3 the count of those that
 -- are lent, 4 the answer, 5 how many calls are made; for the first call 6 whether there is one, and the references to 7 the joint, 8 the array and 9 its
 -- states; the same for a call of the loop, 10 to 13; 14 and 15 what is returned. A call whose locals begin at q has the operands `xs q`.
 use mathlib.Core.List.{[], _∷_, List}

@@ -18,7 +18,7 @@ use denote.Signature.{Slot, plain}
 use denote.Slice.{Room}
 use denote.Struct.Laws as LL
 use borrow.Struct.Items.{is-same}
-use Rattle.direct.specs.declared.call.Call.{Call}
+use Rattle.direct.specs.declared.call.StageCall.{StageCall}
 use Rattle.direct.specs.Direct.{answerOf, directCall}
 use Rattle.records.specs.declared.body.BodyState.{BodyState}
 use Rattle.records.specs.declared.joint.JointSim.{JointSim}
@@ -35,7 +35,7 @@ use Rattle.direct.proofs.Answer.Laws as Tw′
 use Rattle.lent_calls.proofs.Lent as Tl
 use Rattle.lent_calls.proofs.Lent.Laws as Tl′
 use Rattle.lent_calls.proofs.Data.{Fits, Data, struct, array, Of}
-use Rattle.lent_calls.proofs.Loop.{Left}
+use Rattle.lent_calls.proofs.Loop.{AfterCalls}
 
 -- how many states are handed over
 abbrev pub all : ℕ
@@ -105,15 +105,15 @@ module _ {M : Type 1} (𝓤 : URA M) (H : Heap 𝓤) (A : Atoms 𝓤) (W : Given
     typed-l is = LL.lawful Tl.the-type Tl′.the-laws 𝓤 H A W .typed y _ is .0
 
   -- ---- what calls leave (`Loop.antt`)
-  module _ (call : Call) (h : JointSim) (ys : List BodyState) (k : ℕ) where
-    abbrev pub left-by : ℕ → Left 𝓤 H A joint-sim body-state answer
-    left-by i = record { answer = lentCalls call h ys k i .answer; joint = lentCalls call h ys k i .joint; states = lentCalls call h ys k i .states }
+  module _ (call : StageCall) (h : JointSim) (ys : List BodyState) (k : ℕ) where
+    abbrev pub after-by : ℕ → AfterCalls 𝓤 H A joint-sim body-state answer
+    after-by i = record { answer = lentCalls call h ys k i .answer; joint = lentCalls call h ys k i .joint; states = lentCalls call h ys k i .states }
 
     -- of the states that are lent to the next call
     abbrev pub lent-by : ℕ → List BodyState
-    lent-by i = directCall call (left-by i .joint) (take k (left-by i .states)) .states
+    lent-by i = directCall call (after-by i .joint) (take k (after-by i .states)) .states
 
-    pub one-more-by : (i : ℕ) → lent-by i ++ drop k (left-by i .states) ≡ left-by (suc i) .states
+    pub one-more-by : (i : ℕ) → lent-by i ++ drop k (after-by i .states) ≡ after-by (suc i) .states
     unfolding lentCalls
     one-more-by i = refl
 

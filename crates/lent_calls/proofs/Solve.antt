@@ -43,9 +43,9 @@ use Rattle.lent_calls.proofs.Lent.Laws as Tl′
 use Rattle.lent_calls.proofs.Data.{Fits, Data, array, Of, typed}
 use Rattle.lent_calls.proofs.Lends.{Had, Callee, leaves}
 use Rattle.lent_calls.proofs.Pieces.{at, locals, body}
-use Rattle.lent_calls.proofs.Loop.{Left, Sound, value, begins}
+use Rattle.lent_calls.proofs.Loop.{AfterCalls, Sound, value, begins}
 use Rattle.lent_calls.proofs.Rows.{all, J, R, X, Wn, Lf, arrayed, room, joint-sim, step-context, body-state, answer, answer-zero}
-use Rattle.lent_calls.proofs.Rows.{val-l, l-of, typed-l, made-l, left-by, lent-by, one-more-by}
+use Rattle.lent_calls.proofs.Rows.{val-l, l-of, typed-l, made-l, after-by, lent-by, one-more-by}
 use Rattle.lent_calls.proofs.Counts.{as-many, Count, calls-count}
 use Rattle.lent_calls.proofs.lent_count.Symbol.{name as #count}
 
@@ -164,7 +164,7 @@ module _ {M : Type 1} (𝓤 : URA M) (H : Heap 𝓤) (A : Atoms 𝓤) (W : Given
 -- ---- the walk, over any types of data: n calls, to each of which k states are lent
 module _ {M : Type 1} (𝓤 : URA M) (H : Heap 𝓤) (A : Atoms 𝓤) (W : Given 𝓤 H A) (mem : Memory → SProp 𝓤) (run : Routine → Fun 𝓤) (j x r w : Data 𝓤 H A)
     (τ : Ty) (enough : Room (r .row) all) (k n : ℕ) (k-fits : k < 2 ^ 64) (n-fits : n < 2 ^ 64) (ctx : x .row .Denot) (u : Bool)
-    (x-is : Of x ctx) (after : ℕ → Left 𝓤 H A j r w) (lent : ℕ → List (r .row .Denot))
+    (x-is : Of x ctx) (after : ℕ → AfterCalls 𝓤 H A j r w) (lent : ℕ → List (r .row .Denot))
     (one-more : (i : ℕ) → lent i ++ drop k (after i .states) ≡ after (suc i) .states)
     (none-is : vstruct (ofList (vint w32 0 ∷ vint w32 0 ∷ [])) ≡ w .val (after 0 .answer)) (sound : Sound 𝓤 H A W j r w all (after 0))
     (𝓣 : Tables 𝓤 H) (f : Name) (known-count : Triple 𝓤 (𝓣 .C #count) (Count 𝓤 H A mem run))
@@ -239,13 +239,13 @@ module _ {M : Type 1} (𝓤 : URA M) (H : Heap 𝓤) (A : Atoms 𝓤) (W : Given
     abbrev Posted : Val → SProp 𝓤
     Posted = walkOf 𝓤 H A ended stayed (clauses kind 𝓤) .post ((tt, tt, tt, passed, vals), tt)
 
-    abbrev left : ℕ → Lent
-    left i = lentCalls (solve kind ctx u) h ys k i
+    abbrev after : ℕ → Lent
+    after i = lentCalls (solve kind ctx u) h ys k i
 
-    ends : (i : ℕ) → i ≡ n → Is Lf (left i) (val-l 𝓤 H A W (left i) ∷ []) → ent 𝓤 (emp 𝓤) (Posted (val-l 𝓤 H A W (left i)))
+    ends : (i : ℕ) → i ≡ n → Is Lf (after i) (val-l 𝓤 H A W (after i) ∷ []) → ent 𝓤 (emp 𝓤) (Posted (val-l 𝓤 H A W (after i)))
     ends i e is =
-        qed W [] ∵ suffices ! _ (ends-at 𝓤 H A ended stayed (clauses kind 𝓤) W ((tt, tt, tt, passed, vals), tt) (val-l 𝓤 H A W (left i)) (left i)
-        (tt, (tt, (tt, (tt, (tt, (tt, tt)))))) (tt, (tt, (tt, (tt, (tt, (tt, tt))))))) $ says ! (ap left e) $ owned ! Lf (Is Lf) (made-l 𝓤 H A) (left i) _ is $
+        qed W [] ∵ suffices ! _ (ends-at 𝓤 H A ended stayed (clauses kind 𝓤) W ((tt, tt, tt, passed, vals), tt) (val-l 𝓤 H A W (after i)) (after i)
+        (tt, (tt, (tt, (tt, (tt, (tt, tt)))))) (tt, (tt, (tt, (tt, (tt, (tt, tt))))))) $ says ! (ap after e) $ owned ! Lf (Is Lf) (made-l 𝓤 H A) (after i) _ is $
         nothing ! $ nothing ! $ fjoin ! $ nothing ! $ fjoin ! $ nothing ! $ fjoin ! $ nothing ! $ fjoin ! $ nothing ! $ fjoin ! $ nothing ! $ fjoin ! $
         nothing ! $ done !
 
@@ -253,12 +253,12 @@ module _ {M : Type 1} (𝓤 : URA M) (H : Heap 𝓤) (A : Atoms 𝓤) (W : Given
         → ent 𝓤 (emp 𝓤) (Runs (js .val h ∷ xs .val ctx ∷ ss .val ys ∷ vint w64 k ∷ vbool u ∷ vint w64 n ∷ []) Posted)
     unfolding lentCalls
     meets-at j-is x-is s-is k-fits n-fits =
-        walk 𝓤 H A W mem run js xs (body-state 𝓤 H A W) (answer 𝓤 H A W) Tl′.mir room k n k-fits n-fits ctx u x-is (left-by 𝓤 H A W (solve kind ctx u) h ys k)
+        walk 𝓤 H A W mem run js xs (body-state 𝓤 H A W) (answer 𝓤 H A W) Tl′.mir room k n k-fits n-fits ctx u x-is (after-by 𝓤 H A W (solve kind ctx u) h ys k)
         (lent-by 𝓤 H A W (solve kind ctx u) h ys k) (one-more-by 𝓤 H A W (solve kind ctx u) h ys k) refl
         (record { answer-is = answer-zero 𝓤 H A W; joint-is = j-is; states-is = s-is }) 𝓣 f known-count
-        (λ b b′ i. callee 𝓤 H A W kind (𝓣 .C) f known ctx u x-is b b′ (left i .joint) (min k all) (take k (left i .states))) Posted
-        (λ i s. typed-l 𝓤 H A W (left i) (l-of 𝓤 H A W (left i) (s .answer-is) (s .joint-is) (s .states-is)))
-        (λ i s e. ends i e (l-of 𝓤 H A W (left i) (s .answer-is) (s .joint-is) (s .states-is)))
+        (λ b b′ i. callee 𝓤 H A W kind (𝓣 .C) f known ctx u x-is b b′ (after i .joint) (min k all) (take k (after i .states))) Posted
+        (λ i s. typed-l 𝓤 H A W (after i) (l-of 𝓤 H A W (after i) (s .answer-is) (s .joint-is) (s .states-is)))
+        (λ i s e. ends i e (l-of 𝓤 H A W (after i) (s .answer-is) (s .joint-is) (s .states-is)))
 
   walks : Walks 𝓤 H A ended stayed Runs (clauses kind 𝓤)
   walks = walked 𝓤 H A ended stayed (clauses kind 𝓤) Runs

@@ -5,7 +5,7 @@ use Prim.Native.Nat.{ℕ, zero, suc}
 use lib.ListN.{take, drop}
 use Rattle.records.specs.declared.body.BodyState.{BodyState}
 use Rattle.records.specs.declared.joint.JointSim.{JointSim}
-use Rattle.direct.specs.declared.call.Call.{Call}
+use Rattle.direct.specs.declared.call.StageCall.{StageCall}
 use Rattle.direct.specs.Direct.{answerOf, Outcome, directCall}
 use Rattle.lent_calls.specs.declared.Lent.{Lent}
 
@@ -14,10 +14,10 @@ abbrev pub beside : List BodyState → Outcome → Lent
 beside rest out = record { answer = out .answer; joint = out .joint; states = out .states ++ rest }
 
 -- one call more
-abbrev pub oneMore : Call → ℕ → Lent → Lent
-oneMore call bodyCount left = beside (drop bodyCount (left .states)) (directCall call (left .joint) (take bodyCount (left .states)))
+abbrev pub oneMore : StageCall → ℕ → Lent → Lent
+oneMore call bodyCount before = beside (drop bodyCount (before .states)) (directCall call (before .joint) (take bodyCount (before .states)))
 
 -- what so many calls answer and leave: the answer is the last one's, and number 0 where there was no call
-unfoldable pub lentCalls : Call → JointSim → List BodyState → ℕ → ℕ → Lent
+unfoldable pub lentCalls : StageCall → JointSim → List BodyState → ℕ → ℕ → Lent
 lentCalls call joint states bodyCount zero = record { answer = answerOf 0; joint = joint; states = states }
 lentCalls call joint states bodyCount (suc calls) = oneMore call bodyCount (lentCalls call joint states bodyCount calls)

@@ -5,9 +5,9 @@ use denote.Triple.Table.{entered, cited}
 use Rattle.direct.proofs.Calls.{Read, Write}
 use Rattle.direct.proofs.Stages.{Find, SolveOf}
 use Rattle.direct.proofs.Solve.{meets}
-use Rattle.direct.proofs.places.find_places.Symbol as find-def
-use Rattle.direct.proofs.places.find_places.Symbol.{name as #find}
-use Rattle.direct.proofs.places.find_places.Met as find-thm
+use Rattle.direct.proofs.positions.find_positions.Symbol as find-def
+use Rattle.direct.proofs.positions.find_positions.Symbol.{name as #find}
+use Rattle.direct.proofs.positions.find_positions.Met as find-thm
 use Rattle.direct.proofs.states.read_states.Symbol as read-def
 use Rattle.direct.proofs.states.read_states.Symbol.{name as #read}
 use Rattle.direct.proofs.states.read_states.Met as read-thm
@@ -28,7 +28,7 @@ solve-weld-joint-spec 𝓤 H 𝓜 𝓖 𝓡 =
     entered 𝓤 H (tripleOf 𝓤 H (𝓖 .A) self.signature (self.spec 𝓤 H (𝓖 .A) (𝓜 .mem) (𝓡 .run)))
     (tables 𝓤 H 𝓜 𝓡 code.env .C) (tables 𝓤 H 𝓜 𝓡 code.env .Λ) #self code.function (code.unfolded 𝓤 H 𝓜 𝓡)
     (meets 2 tt #stage 𝓤 H (𝓖 .A) (givenOf 𝓤 H 𝓜 𝓖) (𝓜 .mem) (𝓡 .run) (tablesOf 𝓤 H 𝓜 (tables 𝓤 H 𝓜 𝓡 code.env))
-    (cited 𝓤 H (Find 𝓤 H (𝓖 .A) (𝓜 .mem) (𝓡 .run)) 𝓜 𝓡 code.env #find find-def.routine code.calls-direct·places·find-places (find-thm.met 𝓤 H 𝓜 𝓖 𝓡))
+    (cited 𝓤 H (Find 𝓤 H (𝓖 .A) (𝓜 .mem) (𝓡 .run)) 𝓜 𝓡 code.env #find find-def.routine code.calls-direct·positions·find-positions (find-thm.met 𝓤 H 𝓜 𝓖 𝓡))
     (cited 𝓤 H (Read 𝓤 H (𝓖 .A) (𝓜 .mem) (𝓡 .run)) 𝓜 𝓡 code.env #read read-def.routine code.calls-direct·states·read-states (read-thm.met 𝓤 H 𝓜 𝓖 𝓡))
     (cited 𝓤 H (SolveOf 𝓤 H (𝓖 .A) 2) 𝓜 𝓡 code.env #stage stage-def.routine code.calls-weld·solve-weld-joint (stage-thm.met 𝓤 H 𝓜 𝓖 𝓡))
     (cited 𝓤 H (Write 𝓤 H (𝓖 .A) (𝓜 .mem) (𝓡 .run)) 𝓜 𝓡 code.env #write write-def.routine code.calls-direct·states·write-states (write-thm.met 𝓤 H 𝓜 𝓖 𝓡)))

@@ -1,4 +1,4 @@
--- `states::read_states` meets its contract: a walk of its MIR, by hand. The slice is lent again to `load_state`, twice (`Calls.antt`).
+-- `states::read_states` meets its contract: a walk of its MIR, by hand. The slice is lent again to `load_state`, twice (`states/Calls.antt`).
 -- Assumes nothing.
 use mathlib.Core.Path.{refl}
 use Prim.Native.Nat.{ℕ}
@@ -32,11 +32,11 @@ use denote.Triple.Walked.{says, Stays, stay-slice, stay-none, walkOf, goes-slice
 use denote.Exit.{yes}
 use denote.Signature.{plain}
 use Rattle.records.specs.declared.body.BodyState.{BodyState}
-use Rattle.direct.specs.declared.places.Places.{Places}
+use Rattle.direct.specs.declared.positions.Positions.{Positions}
 use Rattle.joint.specs.declared.store.StatePair.{StatePair}
 use Rattle.direct.specs.Steps.{readStates}
 use Rattle.direct.proofs.Rows.{R, P, Q, val-p, vals-p, tells-p, made-p, typed-p, p-a, p-b, val-q, vals-q, made-q, typed-q, q-of, typed-s}
-use Rattle.direct.proofs.Calls.{Load, calls-load}
+use Rattle.direct.proofs.states.Calls.{Load, calls-load}
 use Rattle.direct.proofs.states.load_state.Symbol as callee-def
 use Rattle.direct.proofs.states.load_state.Symbol.{name as #callee}
 use Rattle.direct.proofs.states.load_state.Met as callee-thm
@@ -48,7 +48,7 @@ use Rattle.direct.proofs.states.read_states.Code as code
 abbrev stayed : Stays (self.ended .signature .params) (self.ended .kept)
 stayed = (stay-slice (0 ∷ []) tt (plain (λ _. R)), (stay-none (λ _. P) yes, tt))
 
-module _ {M : Type 1} (𝓤 : URA M) (H : Heap 𝓤) (A : Atoms 𝓤) (W : Given 𝓤 H A) (mem : Memory → SProp 𝓤) (run : Routine → Fun 𝓤) (κ : Lft) (q : Share) (b o : ℕ) (γ : GName) (ys : List BodyState) (p : Places) (room : Room R (length ys)) (p-is : Is P p (vals-p p)) where
+module _ {M : Type 1} (𝓤 : URA M) (H : Heap 𝓤) (A : Atoms 𝓤) (W : Given 𝓤 H A) (mem : Memory → SProp 𝓤) (run : Routine → Fun 𝓤) (κ : Lft) (q : Share) (b o : ℕ) (γ : GName) (ys : List BodyState) (p : Positions) (room : Room R (length ys)) (p-is : Is P p (vals-p p)) where
   abbrev n : ℕ
   n = length ys
 
@@ -59,7 +59,7 @@ module _ {M : Type 1} (𝓤 : URA M) (H : Heap 𝓤) (A : Atoms 𝓤) (W : Given
   s = sliceVal (b, o) n
 
   abbrev Arg : Type 0
-  Arg = RefT (List BodyState) × (Places × Unit {0})
+  Arg = RefT (List BodyState) × (Positions × Unit {0})
 
   abbrev a : Arg
   a = (x ys, (p, tt))

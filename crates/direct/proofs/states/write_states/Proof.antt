@@ -1,4 +1,4 @@
--- `states::write_states` meets its contract: a walk of its MIR, by hand. The slice is lent again to `store_state`, twice (`Calls.antt`).
+-- `states::write_states` meets its contract: a walk of its MIR, by hand. The slice is lent again to `store_state`, twice (`states/Calls.antt`).
 -- Assumes nothing.
 use mathlib.Core.Path.{_≡_, refl, sym, subst}
 use Prim.Native.Nat.{ℕ}
@@ -32,12 +32,12 @@ use denote.Triple.Walked.{says, Stays, stay-slice, stay-none, walkOf, goes-slice
 use denote.Exit.{yes}
 use denote.Signature.{plain}
 use Rattle.records.specs.declared.body.BodyState.{BodyState}
-use Rattle.direct.specs.declared.places.Places.{Places}
+use Rattle.direct.specs.declared.positions.Positions.{Positions}
 use Rattle.constraint.specs.declared.velocity.Velocities.{Velocities}
 use Rattle.direct.specs.Steps.{storeAt, writeStates}
 use Rattle.direct.proofs.Rows.{R, P, Ve, val-p, vals-p, tells-p, made-p, typed-p, p-a, p-b, val-v, vals-v, tells-v, made-v, typed-v, v-v-a, v-w-a, v-v-b, v-w-b}
 use Rattle.direct.proofs.Planned.{write-long}
-use Rattle.direct.proofs.Calls.{Store, calls-store}
+use Rattle.direct.proofs.states.Calls.{Store, calls-store}
 use Rattle.direct.proofs.states.store_state.Symbol as callee-def
 use Rattle.direct.proofs.states.store_state.Symbol.{name as #callee}
 use Rattle.direct.proofs.states.store_state.Met as callee-thm
@@ -49,7 +49,7 @@ use Rattle.direct.proofs.states.write_states.Code as code
 abbrev stayed : Stays (self.ended .signature .params) (self.ended .kept)
 stayed = (stay-slice (0 ∷ []) tt (plain (λ _. R)), (stay-none (λ _. P) yes, (stay-none (λ _. Ve) yes, tt)))
 
-module _ {M : Type 1} (𝓤 : URA M) (H : Heap 𝓤) (A : Atoms 𝓤) (W : Given 𝓤 H A) (mem : Memory → SProp 𝓤) (run : Routine → Fun 𝓤) (κ : Lft) (q : Share) (b o : ℕ) (γ : GName) (ys : List BodyState) (p : Places) (v : Velocities) (room : Room R (length ys)) (p-is : Is P p (vals-p p)) (v-is : Is Ve v (vals-v v)) where
+module _ {M : Type 1} (𝓤 : URA M) (H : Heap 𝓤) (A : Atoms 𝓤) (W : Given 𝓤 H A) (mem : Memory → SProp 𝓤) (run : Routine → Fun 𝓤) (κ : Lft) (q : Share) (b o : ℕ) (γ : GName) (ys : List BodyState) (p : Positions) (v : Velocities) (room : Room R (length ys)) (p-is : Is P p (vals-p p)) (v-is : Is Ve v (vals-v v)) where
   abbrev n : ℕ
   n = length ys
 
@@ -60,7 +60,7 @@ module _ {M : Type 1} (𝓤 : URA M) (H : Heap 𝓤) (A : Atoms 𝓤) (W : Given
   s = sliceVal (b, o) n
 
   abbrev Arg : Type 0
-  Arg = RefT (List BodyState) × (Places × (Velocities × Unit {0}))
+  Arg = RefT (List BodyState) × (Positions × (Velocities × Unit {0}))
 
   abbrev a : Arg
   a = (x ys, (p, (v, tt)))

@@ -5,11 +5,11 @@ use lib.ListN.{length, take}
 use lib.Seq.{take-at, drop-at}
 use Rattle.records.specs.declared.body.BodyState.{BodyState}
 use Rattle.records.specs.declared.joint.JointSim.{JointSim}
-use Rattle.direct.specs.declared.call.Call.{Call}
+use Rattle.direct.specs.declared.call.StageCall.{StageCall}
 use Rattle.direct.specs.Direct.{directCall}
 use Rattle.lent_calls.specs.Lent.{beside, lentCalls}
 
-pub one-call : (call : Call) (joint : JointSim) (lent rest : List BodyState)
+pub one-call : (call : StageCall) (joint : JointSim) (lent rest : List BodyState)
     → lentCalls call joint (lent ++ rest) (length lent) 1 ≡ beside rest (directCall call joint lent)
 unfolding lentCalls
 one-call call joint lent rest =

@@ -6,7 +6,6 @@ use mathlib.Core.List.{List, [], _∷_}
 use Prim.Native.Nat.{ℕ, zero, suc, _≤_, _<_}
 use native.Mathlib.Omega.{arith}
 use lib.Dec.{eqb}
-use lib.Ieee.{Float}
 use lib.IntN.{ℤ, pos, negsuc}
 use lib.ListN.{length, getD, set, take}
 use lib.Seq.{getD-set-same, length-take-le, take-set-lt, getD-take}
@@ -14,12 +13,11 @@ use borrow.Author.Tests.{eq-eqb, ne-eqb, eqb-true, eqb-false, le-ltb, lt-leb, le
 use Rattle.math_functions.specs.declared.types.Vec3.{Vec3}
 use Rattle.solver.specs.declared.StepContext.{StepContext}
 use Rattle.records.specs.declared.body.BodyState.{BodyState}
-use Rattle.records.specs.declared.joint.JointBase.{JointBase}
 use Rattle.records.specs.declared.joint.JointSim.{JointSim}
 use Rattle.records.specs.declared.joint.JointUnion.{JointUnion}
 use Rattle.records.specs.declared.joint.JointUnion.the-variants.{Revolute, Spherical, Weld, Other}
 use Rattle.records.specs.Body.{storeVelocities, identityBodyState}
-use Rattle.records.specs.Joint.{isOther, unusedJoint, jointSim}
+use Rattle.records.specs.Joint.{isOther, unusedJoint}
 use Rattle.joint.specs.Stage.{Staged, stageJoint}
 use Rattle.joint.specs.Index.{indexA, indexB, badIndex, indexCause}
 use Rattle.scene.specs.declared.Scene.{Scene}
@@ -27,10 +25,10 @@ use Rattle.scene.specs.Scene.{jointAt, stateAt, store}
 use Rattle.scene.specs.Calls.{call}
 use Rattle.scene.specs.Plain as Plain
 use Rattle.scene.specs.Plain.{verdictOf, earlyCause, verdict, storeBoth, step, plainRun}
-use Rattle.scene.specs.Accepted.{run-accepted, run-refused}
-use Rattle.direct.specs.declared.call.Call.{Call}
+use Rattle.scene.proofs.Accepted.{run-accepted, run-refused}
+use Rattle.direct.specs.declared.call.StageCall.{StageCall}
 use Rattle.direct.specs.Direct.{isOfKind, cause, Outcome, stageAt, directCall}
-use Rattle.direct.specs.Outcomes.{its-cause, worked-is, refused-is}
+use Rattle.direct.proofs.Outcomes.{its-cause, worked-is, refused-is}
 use Rattle.direct.specs.Claims.{callOf, counted, Callable, OfKind, SameEnd}
 
 -- ---- the counted part of a list
@@ -68,16 +66,16 @@ kind-then false rest e = absurd (omega arith)
 -- ---- a stage
 
 -- a warm start reads no step context
-no-context : (u : JointUnion) (base : JointBase) (h i h′ i′ : Float) (a b : BodyState) → stageJoint u base h i a b 0 ≡ stageJoint u base h′ i′ a b 0
+no-context : (joint : JointSim) (c d : StepContext) (a b : BodyState) → stageJoint joint c a b 0 ≡ stageJoint joint d a b 0
 unfolding stageJoint
-no-context u base h i h′ i′ a b = refl
+no-context joint c d a b = refl
 
-same-stage : (kind stage : ℕ) (x : StepContext) (u : JointUnion) (base : JointBase) (a b : BodyState) → stage ≤ 2
-    → stageJoint u base (x .h) (x .«inv_h») a b stage ≡ stageJoint u base (callOf kind stage x .h) (callOf kind stage x .«inv_h») a b (callOf kind stage x .stage)
-same-stage kind zero x u base a b low = no-context u base _ _ _ _ a b
-same-stage kind (suc zero) x u base a b low = refl
-same-stage kind (suc (suc zero)) x u base a b low = refl
-same-stage kind (suc (suc (suc n))) x u base a b low = absurd (omega arith)
+same-stage : (kind stage : ℕ) (x : StepContext) (joint : JointSim) (a b : BodyState) → stage ≤ 2
+    → stageJoint joint x a b stage ≡ stageJoint joint (callOf kind stage x .context) a b (callOf kind stage x .stage)
+same-stage kind zero x joint a b low = no-context joint _ _ a b
+same-stage kind (suc zero) x joint a b low = refl
+same-stage kind (suc (suc zero)) x joint a b low = refl
+same-stage kind (suc (suc (suc n))) x joint a b low = absurd (omega arith)
 
 kind-of : (kind stage : ℕ) (x : StepContext) → callOf kind stage x .kind ≡ kind
 kind-of kind zero x = refl
@@ -96,7 +94,7 @@ module _ (s : Scene) (slot stage kind : ℕ) (ok : Callable s slot stage) (of : 
   abbrev n : ℕ
   n = s .«body_count»
 
-  abbrev direct : Call
+  abbrev direct : StageCall
   direct = callOf kind stage (s .context)
 
   abbrev outcome : Outcome
@@ -133,7 +131,7 @@ module _ (s : Scene) (slot stage kind : ℕ) (ok : Callable s slot stage) (of : 
   same-staged e =
       let f = fine e in
       rw (take-state (s .bodies) n (indexA u) (f .0), take-state (s .bodies) n (indexB u) (f .1))
-      (same-stage kind stage (s .context) u (joint .base) (stateAt (s .bodies) (indexA u)) (stateAt (s .bodies) (indexB u)) (ok .stage-known))
+      (same-stage kind stage (s .context) joint (stateAt (s .bodies) (indexA u)) (stateAt (s .bodies) (indexB u)) (ok .stage-known))
 
   take-both : k ≡ 0 → (r : Staged) → take n (storeBoth (s .bodies) u (r .velocities)) ≡ storeBoth (counted s) u (r .velocities)
   take-both e r =
@@ -169,10 +167,15 @@ module _ (s : Scene) (slot stage kind : ℕ) (ok : Callable s slot stage) (of : 
             number = ap (λ x. x .number) r ∙ sym (ap (λ x. x .answer .number) o);
             place = ap (λ x. x .place) r ∙ sym (ap (λ x. x .answer .place) o);
             joint =
-                ap (λ x. jointAt (x .scene) slot) r ∙ getD-set-same (s .joints) slot (jointSim (joint .base) (Plain.stageAt s joint stage .«union_»)) unusedJoint slot-in
-                ∙ ap (λ x. jointSim (joint .base) (x .«union_»)) g
+                ap (λ x. jointAt (x .scene) slot) r
+                ∙ getD-set-same (s .joints) slot (Plain.stageAt s joint stage .joint) unusedJoint slot-in
+                ∙ ap (λ x. x .joint) g
                 ∙ sym (ap (λ x. x .joint) o);
-            states = ap (λ x. counted (x .scene)) r ∙ take-both e (Plain.stageAt s joint stage) ∙ ap (λ x. storeBoth (counted s) u (x .velocities)) g ∙ sym (ap (λ x. x .states) o);
+            states =
+                ap (λ x. counted (x .scene)) r
+                ∙ take-both e (Plain.stageAt s joint stage)
+                ∙ ap (λ x. storeBoth (counted s) u (x .velocities)) g
+                ∙ sym (ap (λ x. x .states) o);
           }
       by false t =
           let ne = eqb-false k 0 t in

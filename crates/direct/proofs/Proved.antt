@@ -1,4 +1,4 @@
--- The claims of Claims.antt, proved, each under its statement's name in small letters. Assumes nothing.
+-- The claims of specs/Claims.antt, proved, each under its statement's name in small letters. Assumes nothing.
 use mathlib.Core.Path.{_≡_, refl, sym, ap, ap₂, _∙_}
 use mathlib.Core.Logic.{inl, inr, ⊎-elim, _≢_}
 use mathlib.Core.Bool.{Bool, true, false, not, cond}
@@ -15,24 +15,24 @@ use Rattle.records.specs.declared.joint.JointSim.{JointSim}
 use Rattle.records.specs.declared.joint.JointUnion.{JointUnion}
 use Rattle.records.specs.declared.joint.JointUnion.the-variants.{Revolute, Spherical, Weld, Other}
 use Rattle.records.specs.Body.{isDynamic, withVelocities, storeVelocities}
-use Rattle.records.specs.Joint.{jointSim, caseOf}
+use Rattle.records.specs.Joint.{caseOf}
 use Rattle.joint.specs.Stage.{Staged, stageJoint}
 use Rattle.joint.specs.Index.{indexA, indexB, badIndex}
 use Rattle.scene.specs.Scene.{stateAt, store}
 use Rattle.scene.specs.Plain.{verdictOf, storeBoth}
 use Rattle.scene.specs.Claims.{LimitsNonNegative}
-use Rattle.scene.specs.Stages.{stage-keeps, warm-keeps, solve-limits}
-use Rattle.scene.specs.Stores.{store-long, both-rest}
-use Rattle.scene.specs.Framed.{only-impulses}
-use Rattle.scene.specs.Changes.{not-stored, only-velocities}
-use Rattle.scene.specs.Accepted.{Says, says-of, says-other, says-index, Answers, answers-nil, answers-test, answers-numbers, answers-none, answers-hold}
-use Rattle.direct.specs.declared.call.Call.{Call}
+use Rattle.scene.proofs.Stages.{stage-keeps, warm-keeps, solve-limits}
+use Rattle.scene.proofs.Stores.{store-long, both-rest}
+use Rattle.scene.proofs.Framed.{only-impulses}
+use Rattle.scene.proofs.Changes.{not-stored, only-velocities}
+use Rattle.scene.proofs.Accepted.{Says, says-of, says-other, says-index, Answers, answers-nil, answers-test, answers-numbers, answers-none, answers-hold}
+use Rattle.direct.specs.declared.call.StageCall.{StageCall}
 use Rattle.direct.specs.Direct.{isOfKind, cause, refused, done, stageAt, directCall, warmStart, solve}
 use Rattle.direct.specs.Claims.{Cause1, tests, Numbers, Acceptance, Range, Refusal, OnlyChanges, Changes, WarmStartKeeps}
-use Rattle.direct.specs.Claims.{PairStored, OneBodyTwice, OneCall, Limits}
-use Rattle.direct.specs.Outcomes.{its-cause, by-outcome, answer-is}
-use Rattle.direct.specs.Stored.{at-b, pair-at}
-use Rattle.direct.specs.OneCall.{same-end}
+use Rattle.direct.specs.Claims.{PairStored, OneBodyTwice, OneCall, LimitsAfterCall}
+use Rattle.direct.proofs.Outcomes.{its-cause, by-outcome, answer-is}
+use Rattle.direct.proofs.Stored.{at-b, pair-at}
+use Rattle.direct.proofs.OneCall.{same-end}
 
 -- ---- numbers
 
@@ -55,7 +55,7 @@ three-tests true true b₃ = refl
 three-tests true false true = refl
 three-tests true false false = refl
 
-answers : (call : Call) (joint : JointSim) (states : List BodyState) → Answers (tests call joint states) (verdictOf (its-cause call joint states) 0)
+answers : (call : StageCall) (joint : JointSim) (states : List BodyState) → Answers (tests call joint states) (verdictOf (its-cause call joint states) 0)
 unfolding cause
 answers call joint states =
     let u = joint .«union_» in
@@ -104,7 +104,7 @@ changes call joint states = by-outcome call joint states (OnlyChanges joint stat
         let r = stageAt call joint states in
         let v = r .velocities in
         record {
-          impulses = only-impulses joint (jointSim (joint .base) (r .«union_»)) (ap (jointSim (joint .base)) (stage-keeps (joint .base) (call .h) (call .«inv_h») a b (call .stage) u));
+          impulses = only-impulses joint (r .joint) (stage-keeps joint (call .context) a b (call .stage));
           as-many = store-long (store states (indexA u) (v .«v_a») (v .«w_a»)) (indexB u) (v .«v_b») (v .«w_b») ∙ store-long states (indexA u) (v .«v_a») (v .«w_a»);
           velocities = only-velocities (storeBoth states u v) states (both-rest states u v);
           state-kept = λ n h. not-stored states u n h v;
@@ -122,8 +122,7 @@ changes call joint states = by-outcome call joint states (OnlyChanges joint stat
 pub warm-start-keeps : WarmStartKeeps
 warm-start-keeps kind joint states =
     by-outcome (warmStart kind) joint states (λ after. after .joint ≡ joint)
-    (λ e. ap (jointSim (joint .base)) (warm-keeps (joint .base) _ _ _ _ 0 (joint .«union_») refl))
-    (λ ne. refl)
+    (λ e. warm-keeps joint _ _ _ 0 refl) (λ ne. refl)
 
 -- ---- stores
 
@@ -135,7 +134,7 @@ unfolding storeVelocities
 stored-dynamic x v w d = rw d
 
 -- both indices name the state `n`
-module _ (call : Call) (joint : JointSim) (states : List BodyState) (n : ℕ)
+module _ (call : StageCall) (joint : JointSim) (states : List BodyState) (n : ℕ)
     (is-a : indexA (joint .«union_») ≡ pos n) (is-b : indexB (joint .«union_») ≡ pos n) where
   abbrev u : JointUnion
   u = joint .«union_»
@@ -144,7 +143,7 @@ module _ (call : Call) (joint : JointSim) (states : List BodyState) (n : ℕ)
   x = stateAt states (pos n)
 
   abbrev twice : Staged
-  twice = stageJoint u (joint .base) (call .h) (call .«inv_h») x x (call .stage)
+  twice = stageJoint joint (call .context) x x (call .stage)
 
   -- the state with the velocities that a stage gives B
   abbrev ofB : Staged → BodyState
@@ -152,8 +151,7 @@ module _ (call : Call) (joint : JointSim) (states : List BodyState) (n : ℕ)
 
   -- the two states that are read are one
   same-read : stageAt call joint states ≡ twice
-  same-read =
-      ap₂ (λ i j. stageJoint u (joint .base) (call .h) (call .«inv_h») (stateAt states i) (stateAt states j) (call .stage)) is-a is-b
+  same-read = ap₂ (λ i j. stageJoint joint (call .context) (stateAt states i) (stateAt states j) (call .stage)) is-a is-b
 
   b-remains : isDynamic x ≡ true → directCall call joint states .answer .number ≡ 0
       → stateAt (storeBoth states u (stageAt call joint states .velocities)) (pos n) ≡ ofB twice
@@ -166,13 +164,13 @@ module _ (call : Call) (joint : JointSim) (states : List BodyState) (n : ℕ)
       ∙ stored-dynamic x (v .«v_b») (v .«w_b») dynamic
       ∙ ap ofB same-read
 
-  b-left : isDynamic x ≡ true → directCall call joint states .answer .number ≡ 0 → stateAt (directCall call joint states .states) (pos n) ≡ ofB twice
-  b-left dynamic e =
+  b-at-exit : isDynamic x ≡ true → directCall call joint states .answer .number ≡ 0 → stateAt (directCall call joint states .states) (pos n) ≡ ofB twice
+  b-at-exit dynamic e =
       by-outcome call joint states (λ o. o .answer .number ≡ 0 → stateAt (o .states) (pos n) ≡ ofB twice)
       (λ z k. b-remains dynamic e) (λ ne k. absurd (ne k)) e
 
 pub one-body-twice : OneBodyTwice
-one-body-twice = b-left
+one-body-twice = b-at-exit
 
 -- ---- a list of one call
 
@@ -185,9 +183,9 @@ a-solve : (useBias : Bool) → _≢_ {A = ℕ} (cond useBias 1 2) 0
 a-solve true e = omega arith
 a-solve false e = omega arith
 
-pub limits : Limits
-limits kind context useBias joint states e free =
+pub limits-after-call : LimitsAfterCall
+limits-after-call kind context useBias joint states e free =
     by-outcome (solve kind context useBias) joint states (λ o. o .answer .number ≡ 0 → LimitsNonNegative (joint .«union_») (o .joint .«union_»))
     (λ z e. let u = joint .«union_» in
-    solve-limits (joint .base) (context .h) (context .«inv_h») (stateAt states (indexA u)) (stateAt states (indexB u)) (cond useBias 1 2) u (a-solve useBias) free)
+    solve-limits joint context (stateAt states (indexA u)) (stateAt states (indexB u)) (cond useBias 1 2) (a-solve useBias) free)
     (λ ne e. absurd (ne e)) e

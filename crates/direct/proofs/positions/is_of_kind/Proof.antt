@@ -1,7 +1,7 @@
--- `places::is_of_kind` equals its definition. Assumes nothing.
+-- `positions::is_of_kind` equals its definition. Assumes nothing.
 use borrow.Author.Needs.{needs}
-use Rattle.direct.proofs.places.is_of_kind.Statement.{statement}
-use Rattle.direct.proofs.places.is_of_kind.Tie as tie
+use Rattle.direct.proofs.positions.is_of_kind.Statement.{statement}
+use Rattle.direct.proofs.positions.is_of_kind.Tie as tie
 
 returns : tie.Need-returns
 returns c = rw (c .enum-told .given .1)

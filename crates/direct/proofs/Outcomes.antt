@@ -9,10 +9,10 @@ use lib.ListN.{length}
 use borrow.Author.Tests.{eqb-true, eqb-false}
 use Rattle.records.specs.declared.body.BodyState.{BodyState}
 use Rattle.records.specs.declared.joint.JointSim.{JointSim}
-use Rattle.direct.specs.declared.call.Call.{Call}
+use Rattle.direct.specs.declared.call.StageCall.{StageCall}
 use Rattle.direct.specs.Direct.{cause, Outcome, answerOf, refused, done, stageAt, directCall}
 
-module _ (call : Call) (joint : JointSim) (states : List BodyState) where
+module _ (call : StageCall) (joint : JointSim) (states : List BodyState) where
   abbrev pub its-cause : ℕ
   its-cause = cause (call .kind) (joint .«union_») (length states)
 

@@ -1,7 +1,7 @@
--- `places::cause_of` equals its definition. Assumes nothing.
+-- `positions::cause_of` equals its definition. Assumes nothing.
 use Rattle.direct.specs.Direct.{cause}
-use Rattle.direct.proofs.places.cause_of.Statement.{statement}
-use Rattle.direct.proofs.places.cause_of.Tie as tie
+use Rattle.direct.proofs.positions.cause_of.Statement.{statement}
+use Rattle.direct.proofs.positions.cause_of.Tie as tie
 
 returns : tie.Need-returns
 unfolding cause

@@ -1,4 +1,4 @@
-// The tests of a direct call, and where its two states lie.
+// The tests of a direct call, and the positions of its two states in the slice.
 ghost use mathlib.Core.Path.{_≡_};
 ghost use Rattle.direct.specs.Direct as D;
 ghost use Rattle.direct.specs.Steps as S;
@@ -8,8 +8,8 @@ use joint::index::indices_of;
 use records::joint::JointSim;
 use records::joint::JointUnion;
 
-// The answer, and the places of the two states among n, where n is the place of none.
-pub struct Places {
+// The answer, and the positions of the two states among n, where n is the position of none.
+pub struct Positions {
     pub answer: Answer,
     pub a: usize,
     pub b: usize,
@@ -37,8 +37,8 @@ fn cause_of(kind: u8, union_: JointUnion, n: usize) -> u32
     1
 }
 
-fn place_of(n: usize, index: i32) -> usize
-    ensures { λ r. ⌜ r ≡ S.placeOf n index ⌝ }
+fn position_of(n: usize, index: i32) -> usize
+    ensures { λ r. ⌜ r ≡ S.positionOf n index ⌝ }
 {
     if index < 0 {
         return n;
@@ -46,23 +46,23 @@ fn place_of(n: usize, index: i32) -> usize
     index as usize
 }
 
-// What a call of a kind answers, and where the joint's two states lie if it is not refused. The cases of
-// -1 return apart: the compiler then makes up to 32 instructions less of a warm start.
-pub fn find_places(kind: u8, joint: JointSim, n: usize) -> Places
-    ensures { λ r. ⌜ r ≡ S.placesOf kind joint n ⌝ }
+// What a call of a kind answers, and the positions of the joint's two states if it is not refused. The cases
+// of -1 return apart: the compiler then makes up to 32 instructions less of a warm start.
+pub fn find_positions(kind: u8, joint: JointSim, n: usize) -> Positions
+    ensures { λ r. ⌜ r ≡ S.positionsOf kind joint n ⌝ }
 {
     let union_ = joint.union_;
     let number = cause_of(kind, union_, n);
     let answer = Answer { number, place: 0 };
     let i = indices_of(union_);
     if i.a < 0 {
-        let b = place_of(n, i.b);
-        return Places { answer, a: n, b };
+        let b = position_of(n, i.b);
+        return Positions { answer, a: n, b };
     }
-    let a = place_of(n, i.a);
+    let a = position_of(n, i.a);
     if i.b < 0 {
-        return Places { answer, a, b: n };
+        return Positions { answer, a, b: n };
     }
-    let b = place_of(n, i.b);
-    Places { answer, a, b }
+    let b = position_of(n, i.b);
+    Positions { answer, a, b }
 }

@@ -15,12 +15,12 @@ use Rattle.constraint.specs.declared.velocity.Velocities.{Velocities}
 use Rattle.joint.specs.Store.{statePair, storePair}
 use Rattle.scene.specs.Scene.{stateAt, store}
 use Rattle.scene.specs.Claims.{OutOf}
-use Rattle.scene.specs.Stores.{store-long, elsewhere}
+use Rattle.scene.proofs.Stores.{store-long, elsewhere}
 use Rattle.direct.specs.Claims.{oneBody}
 
 -- ---- a state that is stored twice
 
--- the second store is all that is left of the first
+-- the second store replaces the first
 over : (x : BodyState) (v w v′ w′ : Vec3) → storeVelocities (storeVelocities x v w) v′ w′ ≡ storeVelocities x v′ w′
 unfolding storeVelocities isDynamic
 over x v w v′ w′ = by (isDynamic x) refl
@@ -43,7 +43,7 @@ read-first s (pos m) (pos k) v w v′ w′ = sym (over-at s m k identityBodyStat
 read-first s (pos m) (negsuc k) v w v′ w′ = refl
 read-first s (negsuc m) j v w v′ w′ = refl
 
--- ---- the two states that are left
+-- ---- the two states at the end
 
 -- the identity state is not dynamic
 stored-at : (s : List BodyState) (i : ℤ) (v w : Vec3) → ¬ (OutOf (length s) i) → stateAt (store s i v w) i ≡ storeVelocities (stateAt s i) v w
