@@ -46,37 +46,53 @@ module _ {M : Type 1} (𝓤 : URA M) (H : Heap 𝓤) (A : Atoms 𝓤) (mem : Mem
   abbrev pub Write : Contract 𝓤
   Write = tripleOf 𝓤 H A write.signature (write.spec 𝓤 H A mem run)
 
-module _ {M : Type 1} (𝓤 : URA M) (H : Heap 𝓤) (A : Atoms 𝓤) (W : Given 𝓤 H A) (mem : Memory → SProp 𝓤) (run : Routine → Fun 𝓤) (ℓ : Lifetime) (κ : Lft) (q : Share) (b o : ℕ) (γ : GName) (n : ℕ) (ys : List BodyState) (n-is : n ≡ length ys) (room : Room R (length ys)) (p : Positions) (p-is : Is P p (vals-p p)) where
+module _ {M : Type 1} (𝓤 : URA M) (H : Heap 𝓤) (A : Atoms 𝓤) (W : Given 𝓤 H A) (mem : Memory → SProp 𝓤) (run : Routine → Fun 𝓤) (ℓ : Lifetime) (κ : Lft)
+    (q : Share) (b o : ℕ) (γ : GName) (n : ℕ) (ys : List BodyState) (n-is : n ≡ length ys) (room : Room R (length ys)) (p : Positions)
+    (p-is : Is P p (vals-p p)) where
   abbrev to-read : ℕ → GName → Read 𝓤 H A mem run .Ghost
   to-read ν δ = (((ν ∷ [], tt), (fullShare, tt), tt, (lentList b o δ ys, (p, tt)), (sliceVal (b, o) n ∷ [], (vals-p p, tt))), tt)
 
-  goes-read : (ν : ℕ) (δ : GName) → ent 𝓤 (sep 𝓤 (A .lft (ν ∷ []) fullShare) (sem 𝓤 H A (slice R (named 0) (ν ∷ []) b o n δ ys))) (Read 𝓤 H A mem run .pre (to-read ν δ))
+  goes-read : (ν : ℕ) (δ : GName) → ent 𝓤 (sep 𝓤 (A .lft (ν ∷ []) fullShare) (sem 𝓤 H A (slice R (named 0) (ν ∷ []) b o n δ ys)))
+      (Read 𝓤 H A mem run .pre (to-read ν δ))
   goes-read ν δ =
       qed W (‵ (flft (ν ∷ []) fullShare) ∷ ‵ (slice R (named 0) (ν ∷ []) b o n δ ys) ∷ []) ∵ nothing ! $ move ! (1 ∷ 0 ∷ []) $ join ! $
       nothing ! $ owned ! P (Is P) (made-p 𝓤 H A) p _ p-is $ fjoin ! $ move ! (2 ∷ 0 ∷ []) $ fjoin ! $ move ! (1 ∷ 0 ∷ []) $ join ! $ frame ! $ done !
 
-  module _ {K : Type 0} {Γ : List (Item 𝓤)} {E : Env 𝓤 H} {C : Calls 𝓤 H} {Λ : Loops 𝓤 H} {post : Kit.Post 𝓤 H} {d : Place} {rest : Body} {xs : List Operand} where
+  module _ {K : Type 0} {Γ : List (Item 𝓤)} {E : Env 𝓤 H} {C : Calls 𝓤 H} {Λ : Loops 𝓤 H} {post : Kit.Post 𝓤 H} {d : Place} {rest : Body}
+      {xs : List Operand} where
     pub calls-read : K → FmC 𝓤 H (W .laws) C → Triple 𝓤 (C #read) (Read 𝓤 H A mem run)
-        → ((ν : ℕ) (δ : GName) → Opds K W (raw (Read 𝓤 H A mem run .pre (to-read ν δ)) ∷ ‵ (LentAgain R κ (ν ∷ []) q γ b o δ ys) ∷ Γ) E xs (sliceVal (b, o) n ∷ val-p p ∷ []))
-        → (Is Q (readStates p ys) (val-q (readStates p ys) ∷ []) → Seq K W (‵ (slice R ℓ κ b o n γ ys) ∷ ‵ (flft κ q) ∷ Γ) (lands C Λ E d (val-q (readStates p ys)) rest post))
+        → ((ν : ℕ) (δ : GName) → Opds K W (raw (Read 𝓤 H A mem run .pre (to-read ν δ)) ∷ ‵ (LentAgain R κ (ν ∷ []) q γ b o δ ys) ∷ Γ) E xs
+        (sliceVal (b, o) n ∷ val-p p ∷ []))
+        → (Is Q (readStates p ys) (val-q (readStates p ys) ∷ []) → Seq K W (‵ (slice R ℓ κ b o n γ ys) ∷ ‵ (flft κ q) ∷ Γ)
+        (lands C Λ E d (val-q (readStates p ys)) rest post))
         → Seq K W (‵ (slice R ℓ κ b o n γ ys) ∷ ‵ (flft κ q) ∷ Γ) (runs C Λ E (seq (call #read xs d) rest) post)
     calls-read t fm known os k =
         calls-lent 𝓤 H A W R ℓ κ q b o γ n ys n-is room t fm (Read 𝓤 H A mem run) known to-read goes-read Q val-q tells-q (readStates p ys) ys
-        (List BodyState × (Unit {0} × Unit {0})) (λ zs. zs .0) (λ zs. fsep ftrue ftrue) (λ r zs. (r ≡ readStates p ys) × (zs ≡ ys)) (λ ν δ w. id⊢ 𝓤 _) (λ r zs e. e) os k
+        (List BodyState × (Unit {0} × Unit {0})) (λ zs. zs .0) (λ zs. fsep ftrue ftrue) (λ r zs. (r ≡ readStates p ys) × (zs ≡ ys)) (λ ν δ w. id⊢ 𝓤 _)
+        (λ r zs e. e) os k
 
-module _ {M : Type 1} (𝓤 : URA M) (H : Heap 𝓤) (A : Atoms 𝓤) (W : Given 𝓤 H A) (mem : Memory → SProp 𝓤) (run : Routine → Fun 𝓤) (ℓ : Lifetime) (κ : Lft) (q : Share) (b o : ℕ) (γ : GName) (n : ℕ) (ys : List BodyState) (n-is : n ≡ length ys) (room : Room R (length ys)) (p : Positions) (v : Velocities) (p-is : Is P p (vals-p p)) (v-is : Is Ve v (vals-v v)) where
+module _ {M : Type 1} (𝓤 : URA M) (H : Heap 𝓤) (A : Atoms 𝓤) (W : Given 𝓤 H A) (mem : Memory → SProp 𝓤) (run : Routine → Fun 𝓤) (ℓ : Lifetime) (κ : Lft)
+    (q : Share) (b o : ℕ) (γ : GName) (n : ℕ) (ys : List BodyState) (n-is : n ≡ length ys) (room : Room R (length ys)) (p : Positions) (v : Velocities)
+    (p-is : Is P p (vals-p p)) (v-is : Is Ve v (vals-v v)) where
   abbrev to-write : ℕ → GName → Write 𝓤 H A mem run .Ghost
   to-write ν δ = (((ν ∷ [], tt), (fullShare, tt), tt, (lentList b o δ ys, (p, (v, tt))), (sliceVal (b, o) n ∷ [], (vals-p p, (vals-v v, tt)))), tt)
 
-  goes-write : (ν : ℕ) (δ : GName) → ent 𝓤 (sep 𝓤 (A .lft (ν ∷ []) fullShare) (sem 𝓤 H A (slice R (named 0) (ν ∷ []) b o n δ ys))) (Write 𝓤 H A mem run .pre (to-write ν δ))
+  goes-write : (ν : ℕ) (δ : GName) → ent 𝓤 (sep 𝓤 (A .lft (ν ∷ []) fullShare) (sem 𝓤 H A (slice R (named 0) (ν ∷ []) b o n δ ys)))
+      (Write 𝓤 H A mem run .pre (to-write ν δ))
   goes-write ν δ =
       qed W (‵ (flft (ν ∷ []) fullShare) ∷ ‵ (slice R (named 0) (ν ∷ []) b o n δ ys) ∷ []) ∵ nothing ! $ move ! (1 ∷ 0 ∷ []) $ join ! $
-      nothing ! $ owned ! Ve (Is Ve) (made-v 𝓤 H A) v _ v-is $ fjoin ! $ owned ! P (Is P) (made-p 𝓤 H A) p _ p-is $ fjoin ! $ move ! (2 ∷ 0 ∷ []) $ fjoin ! $ move ! (1 ∷ 0 ∷ []) $ join ! $ frame ! $ done !
+      nothing ! $ owned ! Ve (Is Ve) (made-v 𝓤 H A) v _ v-is $ fjoin ! $ owned ! P (Is P) (made-p 𝓤 H A) p _ p-is $ fjoin ! $ move ! (2 ∷ 0 ∷ []) $ fjoin ! $
+      move ! (1 ∷ 0 ∷ []) $ join ! $ frame ! $ done !
 
-  module _ {K : Type 0} {Γ : List (Item 𝓤)} {E : Env 𝓤 H} {C : Calls 𝓤 H} {Λ : Loops 𝓤 H} {post : Kit.Post 𝓤 H} {d : Place} {rest : Body} {xs : List Operand} where
+  module _ {K : Type 0} {Γ : List (Item 𝓤)} {E : Env 𝓤 H} {C : Calls 𝓤 H} {Λ : Loops 𝓤 H} {post : Kit.Post 𝓤 H} {d : Place} {rest : Body}
+      {xs : List Operand} where
     pub calls-write : K → FmC 𝓤 H (W .laws) C → Triple 𝓤 (C #write) (Write 𝓤 H A mem run)
-        → ((ν : ℕ) (δ : GName) → Opds K W (raw (Write 𝓤 H A mem run .pre (to-write ν δ)) ∷ ‵ (LentAgain R κ (ν ∷ []) q γ b o δ ys) ∷ Γ) E xs (sliceVal (b, o) n ∷ val-p p ∷ val-v v ∷ []))
-        → Step K W (‵ (slice R ℓ κ b o n γ (writeStates p v ys)) ∷ ‵ (flft κ q) ∷ Γ) (lands C Λ E d vunit rest post) (‵ (slice R ℓ κ b o n γ ys) ∷ ‵ (flft κ q) ∷ Γ) (runs C Λ E (seq (call #write xs d) rest) post)
+        → ((ν : ℕ) (δ : GName) → Opds K W (raw (Write 𝓤 H A mem run .pre (to-write ν δ)) ∷ ‵ (LentAgain R κ (ν ∷ []) q γ b o δ ys) ∷ Γ) E xs
+        (sliceVal (b, o) n ∷ val-p p ∷ val-v v ∷ []))
+        → Step K W (‵ (slice R ℓ κ b o n γ (writeStates p v ys)) ∷ ‵ (flft κ q) ∷ Γ) (lands C Λ E d vunit rest post)
+        (‵ (slice R ℓ κ b o n γ ys) ∷ ‵ (flft κ q) ∷ Γ) (runs C Λ E (seq (call #write xs d) rest) post)
     calls-write t fm known os = step (λ k.
-        calls-lent 𝓤 H A W R ℓ κ q b o γ n ys n-is room t fm (Write 𝓤 H A mem run) known to-write goes-write Nothing (λ _. vunit) nothing-tells tt (writeStates p v ys)
-        (List BodyState × (Unit {0} × (Unit {0} × Unit {0}))) (λ zs. zs .0) (λ zs. fsep ftrue (fsep ftrue ftrue)) (λ r zs. zs ≡ writeStates p v ys) (λ ν δ w. id⊢ 𝓤 _) (λ r zs e. (refl, e)) os (λ _. k))
+        calls-lent 𝓤 H A W R ℓ κ q b o γ n ys n-is room t fm (Write 𝓤 H A mem run) known to-write goes-write Nothing (λ _. vunit) nothing-tells tt
+        (writeStates p v ys)
+        (List BodyState × (Unit {0} × (Unit {0} × Unit {0}))) (λ zs. zs .0) (λ zs. fsep ftrue (fsep ftrue ftrue)) (λ r zs. zs ≡ writeStates p v ys)
+        (λ ν δ w. id⊢ 𝓤 _) (λ r zs e. (refl, e)) os (λ _. k))

@@ -1,6 +1,9 @@
--- A call, in a walk that holds a `&κ mut [T]`, of a function of the slice and plain data: the slice is lent again for a lifetime that is made for the call, and comes back. It says nothing of the crate.
---     calls-lent       the contract's `pre` is had from the new lifetime's token and the slice lent again. The result is out, with out's machine value, and the slice comes back at the list ys′
--- n is the count in the slice's machine value, which is the list's length. The operands are read where the slice and its token stand at 0 and 1, as before the call.
+-- A call, in a walk that holds a `&κ mut [T]`, of a function of the slice and plain data: the slice is lent again for a lifetime that is made for the call, and
+-- comes back. It says nothing of the crate.
+--     calls-lent       the contract's `pre` is had from the new lifetime's token and the slice lent again. The result is out, with out's machine value, and the
+--                      slice comes back at the list ys′
+-- n is the count in the slice's machine value, which is the list's length. The operands are read where the slice and its token stand at 0 and 1, as before the
+-- call.
 -- Assumes `Given`.
 use mathlib.Core.Path.{_≡_, refl, sym}
 use Prim.Native.Nat.{ℕ}
@@ -37,14 +40,16 @@ lentList b o δ l = record { ptr = (b, o); name = δ; now = l }
 abbrev pub slice : (R : RattleType) (ℓ : Lifetime) (κ : Lft) (b o n : ℕ) (δ : GName) → List (R .Denot) → Fml
 slice R ℓ κ b o n δ l = MutSlice ℓ κ R .own (lentList b o δ l) (sliceVal (b, o) n ∷ [])
 
-module _ {M : Type 1} (𝓤 : URA M) (H : Heap 𝓤) (A : Atoms 𝓤) (W : Given 𝓤 H A) (R : RattleType) (ℓ : Lifetime) (κ : Lft) (q : Share) (b o : ℕ) (γ : GName) (n : ℕ) (ys : List (R .Denot)) (n-is : n ≡ length ys) (room : Room R (length ys)) where
+module _ {M : Type 1} (𝓤 : URA M) (H : Heap 𝓤) (A : Atoms 𝓤) (W : Given 𝓤 H A) (R : RattleType) (ℓ : Lifetime) (κ : Lft) (q : Share) (b o : ℕ) (γ : GName)
+    (n : ℕ) (ys : List (R .Denot)) (n-is : n ≡ length ys) (room : Room R (length ys)) where
   -- what a call leaves: the token, the result r, and the last list, of which F is said; t is what it leaves of its other arguments
   abbrev Posted : (S : RattleType) (Z : Type 0) (last : Z → List (R .Denot)) (t : Z → Fml) (F : S .Denot → List (R .Denot) → Type 0) → ℕ → GName → Val → Item 𝓤
   Posted S Z last t F ν δ w =
       later (some (λ (r : S .Denot). ((‵ (flft (ν ∷ []) fullShare) ⊛ ‵ ftrue) ⊛ ‵ (S .own r (w ∷ [])))
       ⊛ some (λ (zs : Z). ‵ (fsep (fsep (finally R δ (last zs)) (feq ℕ (length (last zs)) (length ys))) (t zs)) ⊛ raw (fact 𝓤 (F r (last zs))))))
 
-  module _ {K : Type 0} {Γ : List (Item 𝓤)} {E : Env 𝓤 H} {C : Calls 𝓤 H} {Λ : Loops 𝓤 H} {p : Kit.Post 𝓤 H} {f : Name} {d : Place} {rest : Body} {xs : List Operand} where
+  module _ {K : Type 0} {Γ : List (Item 𝓤)} {E : Env 𝓤 H} {C : Calls 𝓤 H} {Λ : Loops 𝓤 H} {p : Kit.Post 𝓤 H} {f : Name} {d : Place} {rest : Body}
+      {xs : List Operand} where
     pub calls-lent : K → FmC 𝓤 H (W .laws) C → (c : Contract 𝓤) → Triple 𝓤 (C f) c → (g : ℕ → GName → c .Ghost)
         → ((ν : ℕ) (δ : GName) → ent 𝓤 (sep 𝓤 (A .lft (ν ∷ []) fullShare) (sem 𝓤 H A (slice R (named 0) (ν ∷ []) b o n δ ys))) (c .pre (g ν δ)))
         → (S : RattleType) (val : S .Denot → Val) → Tells S (Is S) (λ y. val y ∷ []) → (out : S .Denot) (ys′ : List (R .Denot))
@@ -57,7 +62,8 @@ module _ {M : Type 1} (𝓤 : URA M) (H : Heap 𝓤) (A : Atoms 𝓤) (W : Given
     calls-lent t fm c known g pre S val tl out ys′ Z last z F post holds os k =
         rewrite t 0 (λ (m : ℕ). ‵ (slice R ℓ κ b o m γ ys)) n-is refl $
         lft-new t tt (λ ν. move t (1 ∷ 2 ∷ []) $
-        use2 W (later (some (λ (δ : GName). ‵ (slice R (named 0) (ν ∷ []) b o (length ys) δ ys) ⊛ ‵ (LentAgain R κ (ν ∷ []) q γ b o δ ys)))) (lends-again R κ (ν ∷ []) q γ b o 𝓤 H A W ℓ (named 0) ys) $ await t tt $ pick t (λ δ. split t $
+        use2 W (later (some (λ (δ : GName). ‵ (slice R (named 0) (ν ∷ []) b o (length ys) δ ys) ⊛ ‵ (LentAgain R κ (ν ∷ []) q γ b o δ ys))))
+        (lends-again R κ (ν ∷ []) q γ b o 𝓤 H A W ℓ (named 0) ys) $ await t tt $ pick t (λ δ. split t $
         rewrite t 0 (λ (m : ℕ). ‵ (slice R (named 0) (ν ∷ []) b o m δ ys)) (sym n-is) refl $
         move t (2 ∷ 0 ∷ []) $ use2 W (raw (c .pre (g ν δ))) (pre ν δ) $
         calls-at t fm c known (g ν δ) (os ν δ) (λ w.
@@ -66,7 +72,8 @@ module _ {M : Type 1} (𝓤 : URA M) (H : Heap 𝓤) (A : Atoms 𝓤) (W : Given
         -- [the last list; what is left of the other arguments; the token and the result; the lender's part; Γ]
         move t (2 ∷ []) $ split t $ move t (1 ∷ []) $ rewrite t 0 (λ (u : S .Denot). ‵ (S .own u (w ∷ []))) (holds r (last zs) e .0) refl $
         facts t S (Is S) (shows 𝓤 H A S) out (w ∷ []) (λ is. split t $ lft-end t tt $ move t (0 ∷ 4 ∷ 2 ∷ []) $
-        use3 W (later (‵ (slice R ℓ κ b o (length ys) γ (last zs)) ⊛ ‵ (flft κ q))) (comes-back R κ (ν ∷ []) q γ b o 𝓤 H A W ℓ (named 0) ys δ (last zs) room l) $ await t tt $ split t $
+        use3 W (later (‵ (slice R ℓ κ b o (length ys) γ (last zs)) ⊛ ‵ (flft κ q)))
+        (comes-back R κ (ν ∷ []) q γ b o 𝓤 H A W ℓ (named 0) ys δ (last zs) room l) $ await t tt $ split t $
         rewrite t 0 (λ (m : ℕ). ‵ (slice R ℓ κ b o m γ (last zs))) (sym n-is) refl $
         rewrite t 0 (λ (l : List (R .Denot)). ‵ (slice R ℓ κ b o n γ l)) (holds r (last zs) e .1) refl $
         move t (2 ∷ []) $ drop t $ move t (2 ∷ []) $ drop t $

@@ -41,7 +41,8 @@ take-store : (l : List BodyState) (n : ℕ) (i : ℤ) (v w : Vec3) → badIndex 
 unfolding store
 take-store l n (pos k) v w e =
     let h = leb-false n k e in
-    take-set-lt n l k (storeVelocities (getD l k identityBodyState) v w) h ∙ ap (λ x. set (take n l) k (storeVelocities x v w)) (sym (getD-take n l k identityBodyState h))
+    take-set-lt n l k (storeVelocities (getD l k identityBodyState) v w) h
+    ∙ ap (λ x. set (take n l) k (storeVelocities x v w)) (sym (getD-take n l k identityBodyState h))
 take-store l n (negsuc k) v w e = refl
 
 -- ---- the tests of a call of a list and of a direct call
@@ -109,7 +110,9 @@ module _ (s : Scene) (slot stage kind : ℕ) (ok : Callable s slot stage) (of : 
 
   same-cause : k ≡ its-cause direct joint (counted s)
   unfolding Plain.cause cause
-  same-cause = rw (long, kind-of kind stage (s .context), lt-leb (s .«joint_count») slot (ok .slot-counted), le-ltb 2 stage (ok .stage-known)) (by-kind kind u (indexCause n u) of)
+  same-cause =
+      rw (long, kind-of kind stage (s .context), lt-leb (s .«joint_count») slot (ok .slot-counted), le-ltb 2 stage (ok .stage-known))
+      (by-kind kind u (indexCause n u) of)
 
   early : earlyCause n (s .«joint_count») 2 ≡ 0
   unfolding earlyCause

@@ -1,5 +1,7 @@
 -- The steps of the code do what a direct call is defined to do. Assumes nothing.
---     refuses      a call that is refused.        warm-started, solved      one that is not: what its steps leave is the outcome.        write-long      as many states
+--     refuses                   a call that is refused
+--     warm-started, solved      one that is not: what its steps leave is the outcome
+--     write-long                as many states as before
 use mathlib.Core.Path.{_≡_, refl, sym, ap, ap₂, _∙_}
 use mathlib.Core.Bool.{Bool, true, false, cond, not, false≢true}
 use mathlib.Core.List.{List}

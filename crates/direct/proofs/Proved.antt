@@ -105,7 +105,8 @@ changes call joint states = by-outcome call joint states (OnlyChanges joint stat
         let v = r .velocities in
         record {
           impulses = only-impulses joint (r .joint) (stage-keeps joint (call .context) a b (call .stage));
-          as-many = store-long (store states (indexA u) (v .«v_a») (v .«w_a»)) (indexB u) (v .«v_b») (v .«w_b») ∙ store-long states (indexA u) (v .«v_a») (v .«w_a»);
+          as-many =
+              store-long (store states (indexA u) (v .«v_a») (v .«w_a»)) (indexB u) (v .«v_b») (v .«w_b») ∙ store-long states (indexA u) (v .«v_a») (v .«w_a»);
           velocities = only-velocities (storeBoth states u v) states (both-rest states u v);
           state-kept = λ n h. not-stored states u n h v;
         }

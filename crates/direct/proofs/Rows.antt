@@ -1,4 +1,5 @@
--- The rows of the types that the walks meet: each one's machine value, that its relation tells that value, that the value has its MIR type, and what is known of the fields.
+-- The rows of the types that the walks meet: each one's machine value, that its relation tells that value, that the value has its MIR type, and what is known
+-- of the fields.
 -- A type whose fields no walk reads has its machine value shut; of the others one level is shown.
 -- Assumes nothing, but for `made-…` and `typed-…`, which are over a model.
 use Prim.Native.Nat.{_<_, _^_}

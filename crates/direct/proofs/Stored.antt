@@ -29,7 +29,8 @@ over x v w v′ w′ = by (isDynamic x) refl
     by true e = rw e
     by false e = refl
 
-over-at : (s : List BodyState) (m k : ℕ) (d : BodyState) (v w v′ w′ : Vec3) → storeVelocities (getD (set s m (storeVelocities (getD s m d) v w)) k d) v′ w′ ≡ storeVelocities (getD s k d) v′ w′
+over-at : (s : List BodyState) (m k : ℕ) (d : BodyState) (v w v′ w′ : Vec3)
+    → storeVelocities (getD (set s m (storeVelocities (getD s m d) v w)) k d) v′ w′ ≡ storeVelocities (getD s k d) v′ w′
 over-at [] m k d v w v′ w′ = refl
 over-at (x ∷ s) zero zero d v w v′ w′ = over x v w v′ w′
 over-at (x ∷ s) zero (suc k) d v w v′ w′ = refl

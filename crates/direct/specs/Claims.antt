@@ -72,7 +72,8 @@ pub record OnlyChanges (joint : JointSim) (states : List BodyState) (after : Out
   pub as-many : length (after .states) ≡ length states
   pub velocities : (n : ℕ) → OnlyVelocities (stateAt states (pos n)) (stateAt (after .states) (pos n))
   -- a state that is not dynamic, or that the joint does not name, is kept whole
-  pub state-kept : (n : ℕ) → (NamesBody (joint .«union_») n → ¬ (isDynamic (stateAt states (pos n)) ≡ true)) → stateAt (after .states) (pos n) ≡ stateAt states (pos n)
+  pub state-kept : (n : ℕ) → (NamesBody (joint .«union_») n → ¬ (isDynamic (stateAt states (pos n)) ≡ true))
+      → stateAt (after .states) (pos n) ≡ stateAt states (pos n)
 
 -- Whatever the call, it changes nothing else.
 abbrev pub Changes : Type 0

@@ -1,5 +1,5 @@
--- Document 01's direct call on lent memory: the answer, the joint and the states as it leaves them, for every joint and every list of states. What a joint names
--- and how a body is read and stored are the scene's definitions. Definitions only. Assumes nothing.
+-- Document 01's direct call on lent memory: the answer, the joint and the states as it leaves them, for every joint and every list of states. What a joint
+-- names and how a body is read and stored are the scene's definitions. Definitions only. Assumes nothing.
 use mathlib.Core.Path.{_≡_}
 use mathlib.Core.Bool.{Bool, false, cond}
 use mathlib.Core.List.{List}
@@ -48,8 +48,8 @@ isOfKind kind (Spherical r) = eqb kind spherical
 isOfKind kind (Weld r) = eqb kind weld
 isOfKind kind Other = false
 
--- 'a direct stage call tests 1, 2, 3': the first cause that holds, or 0. 1 is 'joint's case is not the kind called, or not one of the three'; 2 and 3 are 'first
--- body index below -1, or at or above the body count' and 'second body index likewise'
+-- 'a direct stage call tests 1, 2, 3': the first cause that holds, or 0. 1 is 'joint's case is not the kind called, or not one of the three'; 2 and 3 are
+-- 'first body index below -1, or at or above the body count' and 'second body index likewise'
 unfoldable pub cause : ℕ → JointUnion → ℕ → ℕ
 cause kind union bodyCount = cond (isOfKind kind union) (indexCause bodyCount union) 1
 

@@ -20,7 +20,8 @@ pub struct Answer {
 }
 
 pub fn warm_start_revolute_joint(joint: &mut JointSim, states: &mut [BodyState]) -> Answer
-    ensures { λ r. ⌜ D.Leaves (D.directCall (D.warmStart D.revolute) (now (joint .entry)) (now (states .entry))) r (now (joint .exit)) (now (states .exit)) ⌝ }
+    ensures { λ r. ⌜ D.Leaves (D.directCall (D.warmStart D.revolute) (now (joint .entry)) (now (states .entry)))
+        r (now (joint .exit)) (now (states .exit)) ⌝ }
 {
     let n = states.len();
     let positions = find_positions(0, *joint, n);
@@ -34,7 +35,8 @@ pub fn warm_start_revolute_joint(joint: &mut JointSim, states: &mut [BodyState])
 }
 
 pub fn warm_start_spherical_joint(joint: &mut JointSim, states: &mut [BodyState]) -> Answer
-    ensures { λ r. ⌜ D.Leaves (D.directCall (D.warmStart D.spherical) (now (joint .entry)) (now (states .entry))) r (now (joint .exit)) (now (states .exit)) ⌝ }
+    ensures { λ r. ⌜ D.Leaves (D.directCall (D.warmStart D.spherical) (now (joint .entry)) (now (states .entry)))
+        r (now (joint .exit)) (now (states .exit)) ⌝ }
 {
     let n = states.len();
     let positions = find_positions(1, *joint, n);
@@ -48,7 +50,8 @@ pub fn warm_start_spherical_joint(joint: &mut JointSim, states: &mut [BodyState]
 }
 
 pub fn warm_start_weld_joint(joint: &mut JointSim, states: &mut [BodyState]) -> Answer
-    ensures { λ r. ⌜ D.Leaves (D.directCall (D.warmStart D.weld) (now (joint .entry)) (now (states .entry))) r (now (joint .exit)) (now (states .exit)) ⌝ }
+    ensures { λ r. ⌜ D.Leaves (D.directCall (D.warmStart D.weld) (now (joint .entry)) (now (states .entry)))
+        r (now (joint .exit)) (now (states .exit)) ⌝ }
 {
     let n = states.len();
     let positions = find_positions(2, *joint, n);
@@ -67,7 +70,8 @@ pub fn solve_revolute_joint(
     states: &mut [BodyState],
     use_bias: bool,
 ) -> Answer
-    ensures { λ r. ⌜ D.Leaves (D.directCall (D.solve D.revolute context «use_bias») (now (joint .entry)) (now (states .entry))) r (now (joint .exit)) (now (states .exit)) ⌝ }
+    ensures { λ r. ⌜ D.Leaves (D.directCall (D.solve D.revolute context «use_bias») (now (joint .entry)) (now (states .entry)))
+        r (now (joint .exit)) (now (states .exit)) ⌝ }
 {
     let n = states.len();
     let positions = find_positions(0, *joint, n);
@@ -87,7 +91,8 @@ pub fn solve_spherical_joint(
     states: &mut [BodyState],
     use_bias: bool,
 ) -> Answer
-    ensures { λ r. ⌜ D.Leaves (D.directCall (D.solve D.spherical context «use_bias») (now (joint .entry)) (now (states .entry))) r (now (joint .exit)) (now (states .exit)) ⌝ }
+    ensures { λ r. ⌜ D.Leaves (D.directCall (D.solve D.spherical context «use_bias») (now (joint .entry)) (now (states .entry)))
+        r (now (joint .exit)) (now (states .exit)) ⌝ }
 {
     let n = states.len();
     let positions = find_positions(1, *joint, n);
@@ -107,7 +112,8 @@ pub fn solve_weld_joint(
     states: &mut [BodyState],
     use_bias: bool,
 ) -> Answer
-    ensures { λ r. ⌜ D.Leaves (D.directCall (D.solve D.weld context «use_bias») (now (joint .entry)) (now (states .entry))) r (now (joint .exit)) (now (states .exit)) ⌝ }
+    ensures { λ r. ⌜ D.Leaves (D.directCall (D.solve D.weld context «use_bias») (now (joint .entry)) (now (states .entry)))
+        r (now (joint .exit)) (now (states .exit)) ⌝ }
 {
     let n = states.len();
     let positions = find_positions(2, *joint, n);

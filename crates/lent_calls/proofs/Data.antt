@@ -3,7 +3,7 @@
 --     Data             the type's row, its MIR type and a value's machine value, and the laws of these
 --     struct, array    of a declared struct; of an array
 --     Of, Fits, typed  a value is related to its machine value; a machine value is of a MIR type; of the one follows the other
---     cell-to-part, part-to-cell    a cell that holds a value's machine value is the value in memory; and back, with `Of`
+--     cell-to-part     a cell that holds a value's machine value is the value in memory.        part-to-cell     and back, with `Of`
 -- Assumes nothing, but for `struct`, `array` and the last two, which assume `Given`.
 use mathlib.Core.Path.{_≡_, refl, sym, ap, subst}
 use Prim.Native.Nat.{ℕ}

@@ -4,7 +4,7 @@
 --     Callee           a function that is called so
 --     calls-lending    each local's cell is lent for a lifetime that is made for the call; once the call has returned, both lifetimes are ended and the cells
 --                      are the caller's again, at the last values. The elements that are not lent stay. The operands are read where what the lenders keep
---                      stands in the place of the two cells
+--                      stands instead of the two cells
 -- Assumes `Given`.
 use mathlib.Core.Path.{_≡_, refl, sym, _∙_, subst}
 use Prim.Native.Nat.{ℕ}

@@ -40,7 +40,8 @@ pub record AfterCalls {M : Type 1} (𝓤 : URA M) (H : Heap 𝓤) (A : Atoms �
   pub joint : j .row .Denot
   pub states : List (r .row .Denot)
 
-pub record Sound {M : Type 1} (𝓤 : URA M) (H : Heap 𝓤) (A : Atoms 𝓤) (W : Given 𝓤 H A) (j r w : Data 𝓤 H A) (size : ℕ) (x : AfterCalls 𝓤 H A j r w) : Type 0 where
+pub record Sound {M : Type 1} (𝓤 : URA M) (H : Heap 𝓤) (A : Atoms 𝓤) (W : Given 𝓤 H A) (j r w : Data 𝓤 H A) (size : ℕ)
+    (x : AfterCalls 𝓤 H A j r w) : Type 0 where
   pub answer-is : Of w (x .answer)
   pub joint-is : Of j (x .joint)
   pub states-is : Of (array 𝓤 H A W r size) (x .states)

@@ -245,7 +245,8 @@ module _ {M : Type 1} (𝓤 : URA M) (H : Heap 𝓤) (A : Atoms 𝓤) (W : Given
     ends : (i : ℕ) → i ≡ n → Is Lf (after i) (val-l 𝓤 H A W (after i) ∷ []) → ent 𝓤 (emp 𝓤) (Posted (val-l 𝓤 H A W (after i)))
     ends i e is =
         qed W [] ∵ suffices ! _ (ends-at 𝓤 H A ended stayed (clauses kind 𝓤) W ((tt, tt, tt, passed, vals), tt) (val-l 𝓤 H A W (after i)) (after i)
-        (tt, (tt, (tt, (tt, (tt, (tt, tt)))))) (tt, (tt, (tt, (tt, (tt, (tt, tt))))))) $ says ! (ap after e) $ owned ! Lf (Is Lf) (made-l 𝓤 H A) (after i) _ is $
+        (tt, (tt, (tt, (tt, (tt, (tt, tt)))))) (tt, (tt, (tt, (tt, (tt, (tt, tt))))))) $ says ! (ap after e) $
+        owned ! Lf (Is Lf) (made-l 𝓤 H A) (after i) _ is $
         nothing ! $ nothing ! $ fjoin ! $ nothing ! $ fjoin ! $ nothing ! $ fjoin ! $ nothing ! $ fjoin ! $ nothing ! $ fjoin ! $ nothing ! $ fjoin ! $
         nothing ! $ done !
 

@@ -1,4 +1,5 @@
--- `warm_start_spherical_joint` meets its contract: it is the function of `WarmStart.antt`, at kind 1 and `spherical::warm_start_spherical_joint`. Assumes nothing.
+-- `warm_start_spherical_joint` meets its contract: it is the function of `WarmStart.antt`, at kind 1 and `spherical::warm_start_spherical_joint`. Assumes
+-- nothing.
 use contract.Running.{givenOf, tables, tablesOf}
 use denote.Triple.Spec.{tripleOf}
 use denote.Triple.Table.{entered, cited}

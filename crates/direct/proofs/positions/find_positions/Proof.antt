@@ -16,7 +16,8 @@ returns c =
     let i = told .before .before in
     let f : SFits w32 (i .indices-of .result .a) = record { sfits = told .struct-told .given .0 .1 } in
     let g : SFits w32 (i .indices-of .result .b) = record { sfits = c .before .struct-told2 .given .1 .0 .1 } in
-    let a = at-bits (positionOf _) f (ap (λ x. x .a) (i .indices-of .ensures)) (none (i .before .before .args .n) (bits (i .indices-of .result .a)) (one .if1 .taken)) in
+    let a = at-bits (positionOf _) f (ap (λ x. x .a) (i .indices-of .ensures))
+    (none (i .before .before .args .n) (bits (i .indices-of .result .a)) (one .if1 .taken)) in
     let b = at-bits (positionOf _) g (ap (λ x. x .b) (i .indices-of .ensures)) (c .position-of .ensures) in
     rw (← (i .before .cause-of .ensures), ← a, ← b)
 
@@ -28,7 +29,8 @@ returns-2 c =
     let f : SFits w32 (i .indices-of .result .a) = record { sfits = told .struct-told3 .given .0 .1 } in
     let g : SFits w32 (i .indices-of .result .b) = record { sfits = c .before .struct-told4 .given .1 .0 .1 } in
     let a = at-bits (positionOf _) f (ap (λ x. x .a) (i .indices-of .ensures)) (second .position-of2 .ensures) in
-    let b = at-bits (positionOf _) g (ap (λ x. x .b) (i .indices-of .ensures)) (none (i .before .before .args .n) (bits (i .indices-of .result .b)) (c .if2 .taken)) in
+    let b = at-bits (positionOf _) g (ap (λ x. x .b) (i .indices-of .ensures))
+    (none (i .before .before .args .n) (bits (i .indices-of .result .b)) (c .if2 .taken)) in
     rw (← (i .before .cause-of .ensures), ← a, ← b)
 
 returns-3 : tie.Need-returns-3
@@ -43,4 +45,6 @@ returns-3 c =
     rw (← (i .before .cause-of .ensures), ← a, ← b)
 
 pub find-positions-spec : {M : Type 1} → statement M
-find-positions-spec = tie.close (tie.spec (λ c κs. search needs) (λ c κs. search needs) (λ c κs. search needs) returns (λ c κs. search needs) returns-2 (λ c κs. search needs) returns-3)
+find-positions-spec =
+    tie.close (tie.spec (λ c κs. search needs) (λ c κs. search needs) (λ c κs. search needs) returns (λ c κs. search needs) returns-2
+    (λ c κs. search needs) returns-3)
