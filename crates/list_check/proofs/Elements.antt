@@ -21,7 +21,9 @@ pub joints-long : (s : Scene) → length (map (JointField.the-field .into) (s .j
 joints-long s e = sym (length-map (s .joints) (JointField.the-field .into)) ∙ e
 
 -- filling an array from another
-pub fill-more {ℓ} : {A : Type ℓ} (bs o w : List A) (k : ℕ) (d : A) → w ≡ take k bs ++ drop k o → k < length bs → k < length o → set w k (getD bs k d) ≡ take (k + 1) bs ++ drop (k + 1) o
+pub fill-more {ℓ} : {A : Type ℓ} (bs o w : List A) (k : ℕ) (d : A) → w ≡ take k bs ++ drop k o → k < length bs → k < length o
+    → set w k (getD bs k d) ≡ take (k + 1) bs ++ drop (k + 1) o
 fill-more bs o w k d e h g =
     let n : length (take k bs) ≡ k = length-take-le k bs (omega arith) in
-    rw (e, add-one k, drop-cons o k d g, take-suc bs k d h) (set-at (take k bs) (getD o k d) (drop (suc k) o) (getD bs k d) k n ∙ sym (append-assoc (take k bs) (getD bs k d ∷ []) (drop (suc k) o)))
+    rw (e, add-one k, drop-cons o k d g, take-suc bs k d h)
+    (set-at (take k bs) (getD o k d) (drop (suc k) o) (getD bs k d) k n ∙ sym (append-assoc (take k bs) (getD bs k d ∷ []) (drop (suc k) o)))

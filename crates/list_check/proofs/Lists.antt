@@ -87,18 +87,22 @@ slot-cause-is s slot stage b e t = rw (sym e ∙ t)
 pub within : (count slot : ℕ) (b : Bool) → b ≡ leb count slot → b ≡ false → slot < count
 within count slot b e f = leb-false count slot (sym e ∙ f)
 
-pub stage-cause-is : (s : Scene) (causes : List ℕ) (slot stage d c : ℕ) (b : Bool) → length (s .joints) ≡ 32 → s .«joint_count» ≤ 32 → causes ≡ jointCauses s → b ≡ leb (s .«joint_count») slot → b ≡ false
+pub stage-cause-is : (s : Scene) (causes : List ℕ) (slot stage d c : ℕ) (b : Bool) → length (s .joints) ≡ 32 → s .«joint_count» ≤ 32 → causes ≡ jointCauses s
+    → b ≡ leb (s .«joint_count») slot
+    → b ≡ false
     → c ≡ stageCause (getD causes slot d) stage
     → c ≡ cause s (call slot stage)
 unfolding cause jointCauses
 stage-cause-is s causes slot stage d c b long low table e f is =
     let of : JointSim → ℕ = λ joint. jointCause (s .«body_count») (joint .«union_») in
     let wide : slot < length (map of (s .joints)) = rw (length-map (s .joints) of, long) (omega (arith, within (s .«joint_count») slot b e f, low)) in
-    let same : getD causes slot d ≡ of (getD (s .joints) slot unusedJoint) = rw table (getD-any (map of (s .joints)) slot d (of unusedJoint) wide ∙ List·getD-map of (s .joints) slot unusedJoint) in
+    let same : getD causes slot d ≡ of (getD (s .joints) slot unusedJoint) =
+    rw table (getD-any (map of (s .joints)) slot d (of unusedJoint) wide ∙ List·getD-map of (s .joints) slot unusedJoint) in
     is ∙ rw (sym e ∙ f) (ap (λ x. stageCause x stage) same)
 
 -- filling the table of causes
-pub causes-more : (s : Scene) (w : List ℕ) (k : ℕ) (d : JointSim) (c : ℕ) → length (s .joints) ≡ 32 → k < 32 → w ≡ take k (jointCauses s) ++ drop k (replicate 32 0)
+pub causes-more : (s : Scene) (w : List ℕ) (k : ℕ) (d : JointSim) (c : ℕ) → length (s .joints) ≡ 32 → k < 32
+    → w ≡ take k (jointCauses s) ++ drop k (replicate 32 0)
     → c ≡ jointCause (s .«body_count») (getD (s .joints) k d .«union_»)
     → set w k c ≡ take (k + 1) (jointCauses s) ++ drop (k + 1) (replicate 32 0)
 unfolding jointCauses

@@ -12,7 +12,8 @@ use Rattle.list_check.proofs.check_list.Statement.{statement}
 use Rattle.list_check.proofs.check_list.Tie as tie
 
 abbrev Inv-loop : tie.InvT-loop
-Inv-loop scene list n early causes i₀ place₀ i place = (i ≤ n) × (i ≡ place + place) × (firstCause scene place (calls (drop i list)) ≡ firstCause scene 0 (calls list))
+Inv-loop scene list n early causes i₀ place₀ i place =
+    (i ≤ n) × (i ≡ place + place) × (firstCause scene place (calls (drop i list)) ≡ firstCause scene 0 (calls list))
 
 abbrev μ-loop : tie.MeasureT-loop
 μ-loop scene list n early causes i₀ place₀ i place = n - i
@@ -45,7 +46,8 @@ returns-2 c =
     let none = early-none (r .scene) (r .list .now) _ (e .before .early-cause .ensures) (e .if1 .left) in
     let t = l .loop .inv in
     let room : l .loop .i + 1 < length (r .list .now) = omega (arith, none .even, t .1, c .before .before .before .loop-test .taken) in
-    check-stop (r .list .now) (l .loop .i) (r .scene) (l .loop .place) _ (t .2) 4 room (slot-cause-is (r .scene) _ _ _ (c .before .is-past .ensures) (c .if2 .taken)) (omega arith)
+    check-stop (r .list .now) (l .loop .i) (r .scene) (l .loop .place) _ (t .2) 4 room
+    (slot-cause-is (r .scene) _ _ _ (c .before .is-past .ensures) (c .if2 .taken)) (omega arith)
     ∙ verdict-late (r .scene) (r .list .now) _ (e .before .early-cause .ensures) (e .if1 .left)
 
 cast-of-joint : tie.Need-cast-of-joint Inv-loop μ-loop
@@ -96,7 +98,9 @@ returns-3 c =
     let t = l .loop .inv in
     let room : l .loop .i + 1 < length (r .list .now) = omega (arith, none .even, t .1, c .before .before .before .before .before .before .loop-test .taken) in
     let long = joints-long (r .scene) (e .before .before .before .good .0 .1 .1 .0 .1 .0 .1) in
-    let cause = stage-cause-is (r .scene) (l .before .joint-causes .result) _ _ _ (k .stage-cause .result) _ long (none .few-joints) (l .before .joint-causes .ensures) (k .before .before .before .is-past .ensures) (k .before .before .if2 .left) (k .stage-cause .ensures) in
+    let cause =
+    stage-cause-is (r .scene) (l .before .joint-causes .result) _ _ _ (k .stage-cause .result) _ long (none .few-joints) (l .before .joint-causes .ensures)
+    (k .before .before .before .is-past .ensures) (k .before .before .if2 .left) (k .stage-cause .ensures) in
     check-stop (r .list .now) (l .loop .i) (r .scene) (l .loop .place) _ (t .2) (k .stage-cause .result) room cause (c .if3 .taken)
     ∙ verdict-late (r .scene) (r .list .now) _ (e .before .early-cause .ensures) (e .if1 .left)
 
@@ -131,7 +135,9 @@ loop-again c =
     let more : l .loop .i + 2 ≤ length (r .list .now) = omega (arith, room) in
     let twice : l .loop .i + 2 ≡ (l .loop .place + 1) + (l .loop .place + 1) = omega (arith, t .1) in
     let long = joints-long (r .scene) (e .before .before .before .good .0 .1 .1 .0 .1 .0 .1) in
-    let cause = stage-cause-is (r .scene) (l .before .joint-causes .result) _ _ _ (k .stage-cause .result) _ long (none .few-joints) (l .before .joint-causes .ensures) (k .before .before .before .is-past .ensures) (k .before .before .if2 .left) (k .stage-cause .ensures) in
+    let cause =
+    stage-cause-is (r .scene) (l .before .joint-causes .result) _ _ _ (k .stage-cause .result) _ long (none .few-joints) (l .before .joint-causes .ensures)
+    (k .before .before .before .is-past .ensures) (k .before .before .if2 .left) (k .stage-cause .ensures) in
     (more, twice, check-more (r .list .now) (l .loop .i) (r .scene) (l .loop .place) _ (t .2) (k .stage-cause .result) room cause (c .if3 .left))
 
 returns-4 : tie.Need-returns-4 Inv-loop μ-loop
@@ -145,4 +151,6 @@ returns-4 c =
 pub check-list-spec : {M : Type 1} → statement M
 check-list-spec =
     tie.close
-    (tie.spec Inv-loop μ-loop early-cause-requires returns joint-causes-requires loop-holds shared-slice-read-slot is-past-requires returns-2 cast-of-joint mul-of-joint array-read-of-joint add-stage-cause shared-slice-read-stage-cause stage-cause-requires returns-3 add-i add-place loop-less loop-again returns-4)
+    (tie.spec Inv-loop μ-loop early-cause-requires returns joint-causes-requires loop-holds shared-slice-read-slot is-past-requires returns-2 cast-of-joint
+    mul-of-joint array-read-of-joint add-stage-cause shared-slice-read-stage-cause stage-cause-requires returns-3 add-i add-place loop-less loop-again
+    returns-4)

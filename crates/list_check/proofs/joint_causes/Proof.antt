@@ -1,4 +1,4 @@
--- `joint_causes` equals its definition: the places below `k` are filled. Assumes nothing.
+-- `joint_causes` equals its definition: the positions below `k` are filled. Assumes nothing.
 use mathlib.Core.Path.{_≡_, refl}
 use mathlib.Core.List.{_++_}
 use Prim.Native.Nat.{_-_, _≤_, _<_}
@@ -58,4 +58,6 @@ returns c =
     causes-all s (l .loop .causes) (l .loop .k) long k (l .loop .inv .1)
 
 pub joint-causes-spec : {M : Type 1} → statement M
-joint-causes-spec = tie.close (tie.spec Inv-loop μ-loop loop-holds mul-joint element-copy-out-joint joint-cause-requires mul-causes array-write-causes add-k loop-less loop-again returns)
+joint-causes-spec =
+    tie.close
+    (tie.spec Inv-loop μ-loop loop-holds mul-joint element-copy-out-joint joint-cause-requires mul-causes array-write-causes add-k loop-less loop-again returns)
