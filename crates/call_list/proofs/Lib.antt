@@ -1,4 +1,6 @@
 mod Elements
-mod Turn
+mod StageCodes
+mod Arms
+mod OneCall
 mod Loop
 mod Run

@@ -12,7 +12,7 @@ use Rattle.scene.specs.declared.Scene.{Scene}
 use Rattle.scene.specs.declared.Verdict.{Verdict}
 use Rattle.scene.specs.Calls.{calls}
 use Rattle.scene.specs.Plain.{verdict, Accepted, runCalls, sameVelocities, sameBelow, isStill, done, refused, plainRun}
-use Rattle.scene.specs.Accepted.{run-accepted, run-refused}
+use Rattle.scene.proofs.Accepted.{run-accepted, run-refused}
 use Rattle.list_check.proofs.Elements.{getD-any}
 
 -- ---- the run

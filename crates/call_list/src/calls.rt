@@ -5,13 +5,13 @@ ghost use Prim.Native.Nat.{_+_, _*_, _/_, _<_};
 ghost use lib.ListN.{length, getD, take};
 ghost use Rattle.scene.specs.Calls.{calls};
 ghost use Rattle.scene.specs.Plain.{runCalls};
-ghost use Rattle.call_list.specs.Remade.{remade};
-use crate::places::Places;
-use crate::places::joint_place;
-use crate::places::places_of;
-use crate::places::stage_code;
-use crate::places::with_identity;
-use crate::places::without_identity;
+ghost use Rattle.scene.specs.Scene.{withBodiesAndJoints};
+use crate::positions::Positions;
+use crate::positions::joint_position;
+use crate::positions::positions_of;
+use crate::positions::stage_code;
+use crate::positions::with_identity;
+use crate::positions::without_identity;
 use constraint::answer::Solved;
 use constraint::velocity::velocities_of;
 use records::body::BodyState;
@@ -57,7 +57,7 @@ fn solved_joint(solved: Solved) -> JointSim
 
 // The scene with the joints and the bodies that its calls left.
 fn scene_left(scene: Scene, joints: [JointSim; 32], bodies: [BodyState; 33]) -> Scene
-    ensures { λ r. ⌜ r ≡ remade scene (take 32 bodies) joints ⌝ }
+    ensures { λ r. ⌜ r ≡ withBodiesAndJoints scene (take 32 bodies) joints ⌝ }
 {
     let left = without_identity(bodies);
     let context = scene.context;
@@ -71,10 +71,10 @@ fn scene_left(scene: Scene, joints: [JointSim; 32], bodies: [BodyState; 33]) -> 
 }
 
 // The calls in order, each on what the one before it left. Bodies and joints are read and stored one
-// element at a time; index -1 leads to the last place of `bodies`, which holds the identity state. The
-// joint is read in each arm, so that only what its stage needs is loaded, and stored there by a solve,
-// so that only what the solve changes is written. Bodies are read again before they are stored: A, so
-// that it need not be kept through the stage, and B, since both indices may name one body.
+// element at a time; index -1 leads to the last position of `bodies`, which holds the identity state.
+// The joint is read in each arm, so that only what its stage needs is loaded, and stored there by a
+// solve, so that only what the solve changes is written. Bodies are read again before they are stored:
+// A, so that it need not be kept through the stage, and B, since both indices may name one body.
 pub fn run_calls(scene: Scene, list: &[u8]) -> Scene
     ensures { λ r. ⌜ r ≡ runCalls (calls (now (list .entry))) scene ⌝ }
 {
@@ -83,10 +83,13 @@ pub fn run_calls(scene: Scene, list: &[u8]) -> Scene
     let mut bodies = with_identity(scene);
     for k in 0..call_count(list) {
         let Call { slot, stage } = call_at(list, k);
-        let at = joint_place(slot);
-        let Places { place_a, place_b } = places_of(joints[at]);
-        let a = bodies[place_a];
-        let b = bodies[place_b];
+        let at = joint_position(slot);
+        let Positions {
+            position_a,
+            position_b,
+        } = positions_of(joints[at]);
+        let a = bodies[position_a];
+        let b = bodies[position_b];
         let v = match stage_code(slot, joints[at], stage) {
             0 => warm_start_revolute_joint(joints[at], a, b).velocities,
             1 => warm_start_spherical_joint(joints[at], a, b).velocities,
@@ -108,8 +111,8 @@ pub fn run_calls(scene: Scene, list: &[u8]) -> Scene
             }
             _ => velocities_of(a, b),
         };
-        bodies[place_a] = store_velocities(bodies[place_a], v.v_a, v.w_a);
-        bodies[place_b] = store_velocities(bodies[place_b], v.v_b, v.w_b);
+        bodies[position_a] = store_velocities(bodies[position_a], v.v_a, v.w_a);
+        bodies[position_b] = store_velocities(bodies[position_b], v.v_b, v.w_b);
     }
     scene_left(scene, joints, bodies)
 }

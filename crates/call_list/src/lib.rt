@@ -10,7 +10,7 @@ use scene::Run;
 use scene::Scene;
 
 mod calls;
-mod places;
+mod positions;
 mod still;
 
 // Whether the first `count` bodies kept their velocities.

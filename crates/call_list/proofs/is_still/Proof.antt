@@ -46,8 +46,11 @@ loop-again c =
     let a = e .args in
     let m : length (a .t2) ≡ 32 = search needs in
     let n : length (a .t3) ≡ 32 = search needs in
-    let t = c .before .before .before .loop-test .taken in
-    (search needs, same-more (l .loop .k) (a .t2) (a .t3) _ (l .loop .same) (c .same-velocities .result) (l .loop .inv .1) (omega (arith, e .pre)) (omega (arith, e .pre)) (c .same-velocities .ensures))
+    let t = c .before .before .before .loop-test .taken in (
+      search needs,
+      same-more (l .loop .k) (a .t2) (a .t3) _ (l .loop .same) (c .same-velocities .result) (l .loop .inv .1) (omega (arith, e .pre))
+          (omega (arith, e .pre)) (c .same-velocities .ensures),
+    )
 
 returns : tie.Need-returns Inv-loop μ-loop
 returns c =
@@ -57,4 +60,6 @@ returns c =
     l .loop .inv .1 ∙ ap (λ n. sameBelow n (a .t2) (a .t3)) k
 
 pub is-still-spec : {M : Type 1} → statement M
-is-still-spec = tie.close (tie.spec Inv-loop μ-loop loop-holds mul-a array-copy-out-a mul-b array-copy-out-b same-velocities-requires add-k loop-less loop-again returns)
+is-still-spec =
+    tie.close
+    (tie.spec Inv-loop μ-loop loop-holds mul-a array-copy-out-a mul-b array-copy-out-b same-velocities-requires add-k loop-less loop-again returns)

@@ -2,7 +2,7 @@
 use mathlib.Core.Path.{sym, ap, _∙_}
 use mathlib.Core.Logic.{inl}
 use native.Mathlib.Nat.{le-of-suc-le-suc, lt-of-not-le}
-use Rattle.scene.specs.Accepted.{verdict-answers}
+use Rattle.scene.proofs.Accepted.{verdict-answers}
 use Rattle.call_list.proofs.Run.{refused-is, done-is}
 use Rattle.call_list.proofs.run_list.Statement.{statement}
 use Rattle.call_list.proofs.run_list.Tie as tie

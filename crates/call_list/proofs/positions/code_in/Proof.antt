@@ -1,8 +1,8 @@
 -- `code_in` equals its definition. Assumes nothing.
 use borrow.Author.Tests.{lt-ltb, le-ltb}
-use Rattle.call_list.specs.Places.{codeIn}
-use Rattle.call_list.proofs.places.code_in.Statement.{statement}
-use Rattle.call_list.proofs.places.code_in.Tie as tie
+use Rattle.call_list.specs.Positions.{codeIn}
+use Rattle.call_list.proofs.positions.code_in.Statement.{statement}
+use Rattle.call_list.proofs.positions.code_in.Tie as tie
 
 returns : tie.Need-returns
 unfolding codeIn

@@ -1,4 +1,4 @@
--- `with_identity` equals its definition: the places below `k` are filled. Assumes nothing.
+-- `with_identity` equals its definition: the positions below `k` are filled. Assumes nothing.
 use mathlib.Core.Path.{_≡_, refl}
 use mathlib.Core.List.{_++_}
 use Prim.Native.Nat.{_-_, _≤_, _<_}
@@ -8,8 +8,8 @@ use borrow.Author.Needs.{needs}
 use Rattle.records.specs.Body.{identityBodyState}
 use Rattle.list_check.proofs.Elements.{fill-more}
 use Rattle.call_list.proofs.Elements.{bodies-long, fill-33}
-use Rattle.call_list.proofs.places.with_identity.Statement.{statement}
-use Rattle.call_list.proofs.places.with_identity.Tie as tie
+use Rattle.call_list.proofs.positions.with_identity.Statement.{statement}
+use Rattle.call_list.proofs.positions.with_identity.Tie as tie
 
 abbrev Inv-loop : tie.InvT-loop
 Inv-loop scene out₀ k₀ out k = (k ≤ 32) × (out ≡ take k (scene .bodies) ++ drop k out₀)
@@ -43,8 +43,11 @@ loop-again c =
     let l = c .before .before in
     let a = l .before .args in
     let m = bodies-long (a .t1) (l .before .good .0 .1 .1 .1 .0 .1 .0 .1) in
-    let t : l .loop .k < 32 = c .before .loop-test .taken in
-    (search needs, fill-more (a .t1 .bodies) (replicate 33 identityBodyState) (l .loop .out) (l .loop .k) _ (l .loop .inv .1) (omega arith) (rw (length-replicate 33 identityBodyState) (omega arith)))
+    let t : l .loop .k < 32 = c .before .loop-test .taken in (
+      search needs,
+      fill-more (a .t1 .bodies) (replicate 33 identityBodyState) (l .loop .out) (l .loop .k) _ (l .loop .inv .1) (omega arith)
+          (rw (length-replicate 33 identityBodyState) (omega arith)),
+    )
 
 returns : tie.Need-returns Inv-loop μ-loop
 returns c =
@@ -54,4 +57,6 @@ returns c =
     fill-33 (a .t1 .bodies) (l .loop .out) (l .loop .k) (bodies-long (a .t1) (l .before .good .0 .1 .1 .1 .0 .1 .0 .1)) k (l .loop .inv .1)
 
 pub with-identity-spec : {M : Type 1} → statement M
-with-identity-spec = tie.close (tie.spec Inv-loop μ-loop loop-holds mul-body element-copy-out-body mul-out array-set-from-out add-k loop-less loop-again returns)
+with-identity-spec =
+    tie.close
+    (tie.spec Inv-loop μ-loop loop-holds mul-body element-copy-out-body mul-out array-set-from-out add-k loop-less loop-again returns)

@@ -1,8 +1,8 @@
 -- `stage_code` equals its definition. Assumes nothing.
 use borrow.Author.Needs.{needs}
-use Rattle.call_list.specs.Places.{stageCode}
-use Rattle.call_list.proofs.places.stage_code.Statement.{statement}
-use Rattle.call_list.proofs.places.stage_code.Tie as tie
+use Rattle.call_list.specs.Positions.{stageCode}
+use Rattle.call_list.proofs.positions.stage_code.Statement.{statement}
+use Rattle.call_list.proofs.positions.stage_code.Tie as tie
 
 returns : tie.Need-returns
 unfolding stageCode
@@ -36,5 +36,6 @@ pub stage-code-spec : {M : Type 1} → statement M
 stage-code-spec =
     tie.close
     (tie.spec
-    (λ c. search needs) (λ c κs. tt) (λ c κs. tt) (λ c. search needs) (λ c κs. tt) (λ c κs. tt) (λ c. search needs) (λ c κs. tt) (λ c κs. tt) (λ c. search needs)
+    (λ c. search needs) (λ c κs. tt) (λ c κs. tt) (λ c. search needs) (λ c κs. tt) (λ c κs. tt) (λ c. search needs) (λ c κs. tt) (λ c κs. tt)
+    (λ c. search needs)
     returns returns-2 returns-3 returns-4 returns-5 returns-6 returns-7)

@@ -9,17 +9,17 @@ use Rattle.records.specs.declared.joint.JointUnion.{JointUnion}
 use Rattle.records.specs.declared.joint.JointUnion.the-variants.{Revolute, Spherical, Weld, Other}
 use Rattle.records.specs.Body.{identityBodyState}
 use Rattle.joint.specs.Index.{indexA, indexB}
-use Rattle.call_list.specs.declared.places.Places.{Places}
+use Rattle.call_list.specs.declared.positions.Positions.{Positions}
 
--- a place among 32 bodies, or that of the identity state after them
-abbrev pub bodyPlace : ℤ → ℕ
-bodyPlace (pos n) = cond (ltb n 32) n 32
-bodyPlace (negsuc n) = 32
+-- a position among 32 bodies, or that of the identity state after them
+abbrev pub bodyPosition : ℤ → ℕ
+bodyPosition (pos n) = cond (ltb n 32) n 32
+bodyPosition (negsuc n) = 32
 
-abbrev pub placesOf : JointUnion → Places
-placesOf union = record { «place_a» = bodyPlace (indexA union); «place_b» = bodyPlace (indexB union) }
+abbrev pub positionsOf : JointUnion → Positions
+positionsOf union = record { «position_a» = bodyPosition (indexA union); «position_b» = bodyPosition (indexB union) }
 
--- a code, and 6 behind the last slot, where there is no joint
+-- a code, and 6 past the last slot, where there is no joint
 unfoldable pub codeIn : ℕ → ℕ → ℕ
 codeIn slot code = cond (ltb slot 32) code 6
 
@@ -30,9 +30,9 @@ stageCode slot (Spherical j) stage = codeIn slot (cond (eqb stage 0) 1 4)
 stageCode slot (Weld j) stage = codeIn slot (cond (eqb stage 0) 2 5)
 stageCode slot Other stage = 6
 
--- a place among 32 joints
-unfoldable pub jointPlace : ℕ → ℕ
-jointPlace slot = cond (ltb slot 32) slot 0
+-- a position among 32 joints
+unfoldable pub jointPosition : ℕ → ℕ
+jointPosition slot = cond (ltb slot 32) slot 0
 
 -- the bodies, and the identity state after them
 unfoldable pub withIdentity : List BodyState → List BodyState

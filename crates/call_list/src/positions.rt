@@ -2,7 +2,7 @@
 ghost use mathlib.Core.Path.{_≡_};
 ghost use Prim.Native.Nat.{_<_};
 ghost use lib.ListN.{take};
-ghost use Rattle.call_list.specs.Places as D;
+ghost use Rattle.call_list.specs.Positions as D;
 use joint::index::indices_of;
 use records::body::BodyState;
 use records::body::IDENTITY_BODY_STATE;
@@ -10,16 +10,16 @@ use records::joint::JointSim;
 use records::joint::JointUnion;
 use scene::Scene;
 
-// The places of a joint's two bodies in an array that ends with the identity state.
-pub struct Places {
-    pub place_a: usize,
-    pub place_b: usize,
+// The positions of a joint's two bodies in an array that ends with the identity state.
+pub struct Positions {
+    pub position_a: usize,
+    pub position_b: usize,
 }
 
-// An index's place among 32 bodies and the identity state after them: that of the identity state for
-// -1, and for an index past them.
-fn body_place(index: i32) -> usize
-    ensures { λ r. ⌜ (r < 33) × (r ≡ D.bodyPlace index) ⌝ }
+// An index's position among 32 bodies and the identity state after them: that of the identity state
+// for -1, and for an index past them.
+fn body_position(index: i32) -> usize
+    ensures { λ r. ⌜ (r < 33) × (r ≡ D.bodyPosition index) ⌝ }
 {
     if index < 0 {
         return 32;
@@ -27,14 +27,14 @@ fn body_place(index: i32) -> usize
     if index < 32 { index as usize } else { 32 }
 }
 
-pub fn places_of(joint: JointSim) -> Places
-    ensures { λ r. ⌜ (r .«place_a» < 33) × (r .«place_b» < 33) × (r ≡ D.placesOf (joint .«union_»)) ⌝ }
+pub fn positions_of(joint: JointSim) -> Positions
+    ensures { λ r. ⌜ (r .«position_a» < 33) × (r .«position_b» < 33) × (r ≡ D.positionsOf (joint .«union_»)) ⌝ }
 {
     let union_ = joint.union_;
     let i = indices_of(union_);
-    Places {
-        place_a: body_place(i.a),
-        place_b: body_place(i.b),
+    Positions {
+        position_a: body_position(i.a),
+        position_b: body_position(i.b),
     }
 }
 
@@ -72,12 +72,12 @@ pub fn stage_code(slot: u8, joint: JointSim, stage: u8) -> u8
     }
 }
 
-// A slot's place among 32 joints: 0 for one past them, whose calls work no joint.
-pub fn joint_place(slot: u8) -> usize
-    ensures { λ r. ⌜ (r < 32) × (r ≡ D.jointPlace slot) ⌝ }
+// A slot's position among 32 joints: 0 for one past them, whose calls work no joint.
+pub fn joint_position(slot: u8) -> usize
+    ensures { λ r. ⌜ (r < 32) × (r ≡ D.jointPosition slot) ⌝ }
 {
-    let place = slot as usize;
-    if place < 32 { place } else { 0 }
+    let position = slot as usize;
+    if position < 32 { position } else { 0 }
 }
 
 // The bodies of a scene, and the identity state after them.

@@ -1,4 +1,4 @@
--- `without_identity` equals its definition: the places below `k` are filled. Assumes nothing.
+-- `without_identity` equals its definition: the positions below `k` are filled. Assumes nothing.
 use mathlib.Core.Path.{_≡_, refl}
 use mathlib.Core.List.{_++_}
 use Prim.Native.Nat.{_-_, _≤_, _<_}
@@ -8,8 +8,8 @@ use borrow.Author.Needs.{needs}
 use Rattle.records.specs.Body.{identityBodyState}
 use Rattle.list_check.proofs.Elements.{fill-more}
 use Rattle.call_list.proofs.Elements.{fill-32}
-use Rattle.call_list.proofs.places.without_identity.Statement.{statement}
-use Rattle.call_list.proofs.places.without_identity.Tie as tie
+use Rattle.call_list.proofs.positions.without_identity.Statement.{statement}
+use Rattle.call_list.proofs.positions.without_identity.Tie as tie
 
 abbrev Inv-loop : tie.InvT-loop
 Inv-loop bodies out₀ k₀ out k = (k ≤ 32) × (out ≡ take k bodies ++ drop k out₀)
@@ -43,8 +43,11 @@ loop-again c =
     let l = c .before .before in
     let a = l .before .args in
     let m : length (a .t1) ≡ 33 = search needs in
-    let t : l .loop .k < 32 = c .before .loop-test .taken in
-    (search needs, fill-more (a .t1) (replicate 32 identityBodyState) (l .loop .out) (l .loop .k) _ (l .loop .inv .1) (omega arith) (rw (length-replicate 32 identityBodyState) (omega arith)))
+    let t : l .loop .k < 32 = c .before .loop-test .taken in (
+      search needs,
+      fill-more (a .t1) (replicate 32 identityBodyState) (l .loop .out) (l .loop .k) _ (l .loop .inv .1) (omega arith)
+          (rw (length-replicate 32 identityBodyState) (omega arith)),
+    )
 
 returns : tie.Need-returns Inv-loop μ-loop
 returns c =
@@ -54,4 +57,6 @@ returns c =
     fill-32 (a .t1) (l .loop .out) (l .loop .k) k (l .loop .inv .1)
 
 pub without-identity-spec : {M : Type 1} → statement M
-without-identity-spec = tie.close (tie.spec Inv-loop μ-loop loop-holds mul-body array-copy-out-body mul-out array-set-from-out add-k loop-less loop-again returns)
+without-identity-spec =
+    tie.close
+    (tie.spec Inv-loop μ-loop loop-holds mul-body array-copy-out-body mul-out array-set-from-out add-k loop-less loop-again returns)
