@@ -223,34 +223,16 @@ pub fn solve_spherical(
     let v = velocities_of(state_a, state_b);
     let rotation = joint_rotation(joint, state_a, state_b);
     let fixed = base.fixed_rotation;
-    let soft = base.constraint_softness;
+    let s = base.constraint_softness;
     let spring = solve_spring(fixed, joint, rotation, m, v);
     let motor = solve_motor(fixed, joint, h, m, spring.velocities);
     let angle = twist_angle_if(is_worked(joint.enable_twist_limit, fixed), rotation.rel_q);
     let swing = swing_angle_if(is_worked(joint.enable_cone_limit, fixed), rotation.rel_q);
-    let limits = solve_limits(
-        fixed,
-        soft,
-        joint,
-        angle,
-        inv_h,
-        use_bias,
-        m,
-        motor.velocities,
-    );
+    let twist = solve_limits(fixed, s, joint, angle, inv_h, use_bias, m, motor.velocities);
     let r_a = rotate_vector(state_a.delta_rotation, joint.frame_a.p);
     let r_b = rotate_vector(state_b.delta_rotation, joint.frame_b.p);
-    let bias = solve_bias(soft, joint, r_a, r_b, state_a, state_b, use_bias);
-    let cone = solve_cone(
-        fixed,
-        soft,
-        joint,
-        swing,
-        inv_h,
-        use_bias,
-        m,
-        limits.velocities,
-    );
+    let bias = solve_bias(s, joint, r_a, r_b, state_a, state_b, use_bias);
+    let cone = solve_cone(fixed, s, joint, swing, inv_h, use_bias, m, twist.velocities);
     let point = point_row(bias, r_a, r_b, joint.linear_impulse, m, cone.velocities);
 
     let linear_impulse = point.impulse;
@@ -260,8 +242,8 @@ pub fn solve_spherical(
     joint.linear_impulse = linear_impulse;
     joint.spring_impulse = spring_impulse;
     joint.motor_impulse = motor_impulse;
-    joint.lower_twist_impulse = limits.lower_impulse;
-    joint.upper_twist_impulse = limits.upper_impulse;
+    joint.lower_twist_impulse = twist.lower_impulse;
+    joint.upper_twist_impulse = twist.upper_impulse;
     joint.swing_impulse = cone.impulse;
     SphericalSolved { joint, velocities }
 }
