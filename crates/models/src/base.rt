@@ -38,10 +38,24 @@ const FRAME_B: Transform = Transform {
     },
 };
 
+// Impulses that a step before has left: a linear and an angular one.
+pub const LINEAR_IMPULSE: Vec3 = Vec3 {
+    x: 0.01,
+    y: -0.02,
+    z: 0.03,
+};
+
+pub const ANGULAR_IMPULSE: Vec3 = Vec3 {
+    x: 0.02,
+    y: 0.01,
+    z: -0.01,
+};
+
 // The number of what stands fast, above those of all bodies that move.
 pub const POST: u8 = 32;
 
-// Numbers, frames and the softness of a stiff joint.
+// Numbers, frames and the softness of a stiff joint, all else as the default has it. Every field is
+// spelled out, since one of them is an enum, which Rattle does not store into a field.
 pub fn joint_base(type_: JointType, joint: u8, body_a: u8, body_b: u8) -> JointBase
     ensures { λ r. ⌜ r ≡ D.jointBase «type_» joint «body_a» «body_b» ⌝ }
 {

@@ -3,60 +3,41 @@
 ghost use mathlib.Core.Path.{_≡_};
 ghost use Rattle.models.specs.Door as D;
 use crate::Model;
+use crate::base::LINEAR_IMPULSE;
 use crate::base::POST;
 use crate::base::joint_base;
 use crate::body::fixed_body;
 use crate::body::slab;
-use math_functions::types::TRANSFORM_IDENTITY;
-use math_functions::types::VEC3_ZERO;
-use math_functions::types::Vec2;
-use math_functions::types::Vec3;
-use records::NULL_INDEX;
+use records::joint::DEFAULT_REVOLUTE_JOINT;
 use records::joint::JointSim;
 use records::joint::JointType;
 use records::joint::JointUnion;
 use records::joint::RevoluteJoint;
-use solver::NO_SOFTNESS;
 
 // The hinge, with impulses that a step before has left.
-const HINGE: RevoluteJoint = RevoluteJoint {
-    linear_impulse: Vec3 {
-        x: 0.01,
-        y: -0.02,
-        z: 0.03,
-    },
-    perp_impulse: Vec2 { x: 0.01, y: 0.02 },
-    spring_impulse: 0.01,
-    motor_impulse: 0.02,
-    lower_impulse: 0.03,
-    upper_impulse: 0.01,
-    hertz: 4.0,
-    damping_ratio: 0.7,
-    max_motor_torque: 20.0,
-    motor_speed: 0.5,
-    target_angle: 0.25,
-    lower_angle: -0.125,
-    upper_angle: 0.09375,
-    index_a: NULL_INDEX,
-    index_b: NULL_INDEX,
-    frame_a: TRANSFORM_IDENTITY,
-    frame_b: TRANSFORM_IDENTITY,
-    rotation_axis_z: VEC3_ZERO,
-    perp_axis_x: VEC3_ZERO,
-    perp_axis_y: VEC3_ZERO,
-    delta_center: VEC3_ZERO,
-    delta_angle: 0.0,
-    axial_mass: 0.0,
-    spring_softness: NO_SOFTNESS,
-    enable_spring: true,
-    enable_motor: true,
-    enable_limit: true,
-};
-
 fn hinge() -> RevoluteJoint
     ensures { λ r. ⌜ r ≡ D.hinge ⌝ }
 {
-    HINGE
+    let linear_impulse = LINEAR_IMPULSE;
+    let mut hinge = DEFAULT_REVOLUTE_JOINT;
+    hinge.linear_impulse = linear_impulse;
+    hinge.perp_impulse.x = 0.01;
+    hinge.perp_impulse.y = 0.02;
+    hinge.spring_impulse = 0.01;
+    hinge.motor_impulse = 0.02;
+    hinge.lower_impulse = 0.03;
+    hinge.upper_impulse = 0.01;
+    hinge.hertz = 4.0;
+    hinge.damping_ratio = 0.7;
+    hinge.max_motor_torque = 20.0;
+    hinge.motor_speed = 0.5;
+    hinge.target_angle = 0.25;
+    hinge.lower_angle = -0.125;
+    hinge.upper_angle = 0.09375;
+    hinge.enable_spring = true;
+    hinge.enable_motor = true;
+    hinge.enable_limit = true;
+    hinge
 }
 
 fn hinge_joint(leaf: u8) -> JointSim

@@ -3,80 +3,68 @@
 ghost use mathlib.Core.Path.{_≡_};
 ghost use Rattle.models.specs.Hip as D;
 use crate::Model;
+use crate::base::ANGULAR_IMPULSE;
+use crate::base::LINEAR_IMPULSE;
 use crate::base::joint_base;
 use crate::body::slab;
-use math_functions::types::MAT3_ZERO;
 use math_functions::types::Quat;
-use math_functions::types::TRANSFORM_IDENTITY;
-use math_functions::types::VEC3_ZERO;
 use math_functions::types::Vec3;
-use records::NULL_INDEX;
+use records::joint::DEFAULT_SPHERICAL_JOINT;
 use records::joint::JointSim;
 use records::joint::JointType;
 use records::joint::JointUnion;
 use records::joint::SphericalJoint;
-use solver::NO_SOFTNESS;
 
-// The socket, with impulses that a step before has left.
-const SOCKET: SphericalJoint = SphericalJoint {
-    linear_impulse: Vec3 {
-        x: 0.01,
-        y: -0.02,
-        z: 0.03,
-    },
-    spring_impulse: Vec3 {
-        x: 0.02,
-        y: 0.01,
-        z: -0.01,
-    },
-    motor_impulse: Vec3 {
-        x: 0.01,
-        y: 0.03,
-        z: -0.02,
-    },
-    lower_twist_impulse: 0.01,
-    upper_twist_impulse: 0.02,
-    swing_impulse: 0.03,
-    hertz: 4.0,
-    damping_ratio: 0.7,
-    max_motor_torque: 20.0,
-    motor_velocity: Vec3 {
-        x: 0.125,
-        y: -0.25,
-        z: 0.375,
-    },
-    lower_twist_angle: -0.125,
-    upper_twist_angle: 0.09375,
-    cone_angle: 0.125,
-    target_rotation: Quat {
-        v: Vec3 {
-            x: 0.02,
-            y: -0.01,
-            z: 0.03,
-        },
-        s: 0.9993,
-    },
-    index_a: NULL_INDEX,
-    index_b: NULL_INDEX,
-    frame_a: TRANSFORM_IDENTITY,
-    frame_b: TRANSFORM_IDENTITY,
-    delta_center: VEC3_ZERO,
-    swing_axis: VEC3_ZERO,
-    twist_jacobian: VEC3_ZERO,
-    rotation_mass: MAT3_ZERO,
-    swing_mass: 0.0,
-    twist_mass: 0.0,
-    spring_softness: NO_SOFTNESS,
-    enable_spring: true,
-    enable_motor: true,
-    enable_cone_limit: true,
-    enable_twist_limit: true,
+const MOTOR_IMPULSE: Vec3 = Vec3 {
+    x: 0.01,
+    y: 0.03,
+    z: -0.02,
 };
 
+const MOTOR_VELOCITY: Vec3 = Vec3 {
+    x: 0.125,
+    y: -0.25,
+    z: 0.375,
+};
+
+const TARGET_ROTATION: Quat = Quat {
+    v: Vec3 {
+        x: 0.02,
+        y: -0.01,
+        z: 0.03,
+    },
+    s: 0.9993,
+};
+
+// The socket, with impulses that a step before has left.
 fn socket() -> SphericalJoint
     ensures { λ r. ⌜ r ≡ D.socket ⌝ }
 {
-    SOCKET
+    let linear_impulse = LINEAR_IMPULSE;
+    let spring_impulse = ANGULAR_IMPULSE;
+    let motor_impulse = MOTOR_IMPULSE;
+    let motor_velocity = MOTOR_VELOCITY;
+    let target_rotation = TARGET_ROTATION;
+    let mut socket = DEFAULT_SPHERICAL_JOINT;
+    socket.linear_impulse = linear_impulse;
+    socket.spring_impulse = spring_impulse;
+    socket.motor_impulse = motor_impulse;
+    socket.lower_twist_impulse = 0.01;
+    socket.upper_twist_impulse = 0.02;
+    socket.swing_impulse = 0.03;
+    socket.hertz = 4.0;
+    socket.damping_ratio = 0.7;
+    socket.max_motor_torque = 20.0;
+    socket.motor_velocity = motor_velocity;
+    socket.lower_twist_angle = -0.125;
+    socket.upper_twist_angle = 0.09375;
+    socket.cone_angle = 0.125;
+    socket.target_rotation = target_rotation;
+    socket.enable_spring = true;
+    socket.enable_motor = true;
+    socket.enable_cone_limit = true;
+    socket.enable_twist_limit = true;
+    socket
 }
 
 fn socket_joint(pelvis: u8, thigh: u8) -> JointSim

@@ -2,51 +2,32 @@
 ghost use mathlib.Core.Path.{_≡_};
 ghost use Rattle.models.specs.Strut as D;
 use crate::Model;
+use crate::base::ANGULAR_IMPULSE;
+use crate::base::LINEAR_IMPULSE;
 use crate::base::POST;
 use crate::base::joint_base;
 use crate::body::fixed_body;
 use crate::body::slab;
-use math_functions::types::MAT3_ZERO;
-use math_functions::types::TRANSFORM_IDENTITY;
-use math_functions::types::VEC3_ZERO;
-use math_functions::types::Vec3;
-use records::NULL_INDEX;
+use records::joint::DEFAULT_WELD_JOINT;
 use records::joint::JointSim;
 use records::joint::JointType;
 use records::joint::JointUnion;
 use records::joint::WeldJoint;
-use solver::NO_SOFTNESS;
 
 // The weld, with impulses that a step before has left.
-const WELD: WeldJoint = WeldJoint {
-    linear_hertz: 2.0,
-    linear_damping_ratio: 0.5,
-    angular_hertz: 2.0,
-    angular_damping_ratio: 0.7,
-    linear_spring: NO_SOFTNESS,
-    angular_spring: NO_SOFTNESS,
-    linear_impulse: Vec3 {
-        x: 0.01,
-        y: -0.02,
-        z: 0.03,
-    },
-    angular_impulse: Vec3 {
-        x: 0.02,
-        y: 0.01,
-        z: -0.01,
-    },
-    index_a: NULL_INDEX,
-    index_b: NULL_INDEX,
-    frame_a: TRANSFORM_IDENTITY,
-    frame_b: TRANSFORM_IDENTITY,
-    delta_center: VEC3_ZERO,
-    angular_mass: MAT3_ZERO,
-};
-
 fn weld_record() -> WeldJoint
     ensures { λ r. ⌜ r ≡ D.weldRecord ⌝ }
 {
-    WELD
+    let linear_impulse = LINEAR_IMPULSE;
+    let angular_impulse = ANGULAR_IMPULSE;
+    let mut weld = DEFAULT_WELD_JOINT;
+    weld.linear_hertz = 2.0;
+    weld.linear_damping_ratio = 0.5;
+    weld.angular_hertz = 2.0;
+    weld.angular_damping_ratio = 0.7;
+    weld.linear_impulse = linear_impulse;
+    weld.angular_impulse = angular_impulse;
+    weld
 }
 
 fn weld_joint(strut: u8) -> JointSim

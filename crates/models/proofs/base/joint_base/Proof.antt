@@ -7,6 +7,14 @@ use Rattle.models.specs.Base.{jointBase}
 use Rattle.models.proofs.base.joint_base.Statement.{statement}
 use Rattle.models.proofs.base.joint_base.Tie as tie
 
-pub joint-base-spec : {M : Type 1} → statement M
+returns : tie.Need-returns
 unfolding jointBase Ieee.round Ieee.ofBits Ieee.neg
-joint-base-spec = tie.close (tie.spec (λ c. search needs) (λ c. search needs) (λ c. search needs) (λ c κs. tt) (λ c. rw (toZ-pos w32 (c .before .args .joint) (search needs), toZ-pos w32 (c .before .args .body-a) (search needs), toZ-pos w32 (c .before .args .body-b) (search needs), ← (c .make-soft .ensures))))
+returns c = rw (
+  toZ-pos w32 (c .before .args .joint) (search needs),
+  toZ-pos w32 (c .before .args .body-a) (search needs),
+  toZ-pos w32 (c .before .args .body-b) (search needs),
+  ← (c .make-soft .ensures),
+)
+
+pub joint-base-spec : {M : Type 1} → statement M
+joint-base-spec = tie.close (tie.spec (λ c. search needs) (λ c. search needs) (λ c. search needs) (λ c κs. tt) returns)

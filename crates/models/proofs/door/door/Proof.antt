@@ -3,6 +3,13 @@ use Rattle.models.specs.Door.{door}
 use Rattle.models.proofs.door.door.Statement.{statement}
 use Rattle.models.proofs.door.door.Tie as tie
 
-pub door-spec : {M : Type 1} → statement M
+returns : tie.Need-returns
 unfolding door
-door-spec = tie.close (tie.spec (λ c κs. tt) (λ c κs. tt) (λ c κs. tt) (λ c. rw (← (c .before .before .hinge-joint .ensures), ← (c .before .fixed-body .ensures), ← (c .slab .ensures))))
+returns c = rw (
+  ← (c .before .before .hinge-joint .ensures),
+  ← (c .before .fixed-body .ensures),
+  ← (c .slab .ensures),
+)
+
+pub door-spec : {M : Type 1} → statement M
+door-spec = tie.close (tie.spec (λ c κs. tt) (λ c κs. tt) (λ c κs. tt) returns)

@@ -3,6 +3,13 @@ use Rattle.models.specs.Strut.{strut}
 use Rattle.models.proofs.strut.strut.Statement.{statement}
 use Rattle.models.proofs.strut.strut.Tie as tie
 
-pub strut-spec : {M : Type 1} → statement M
+returns : tie.Need-returns
 unfolding strut
-strut-spec = tie.close (tie.spec (λ c κs. tt) (λ c κs. tt) (λ c κs. tt) (λ c. rw (← (c .before .before .weld-joint .ensures), ← (c .before .fixed-body .ensures), ← (c .slab .ensures))))
+returns c = rw (
+  ← (c .before .before .weld-joint .ensures),
+  ← (c .before .fixed-body .ensures),
+  ← (c .slab .ensures),
+)
+
+pub strut-spec : {M : Type 1} → statement M
+strut-spec = tie.close (tie.spec (λ c κs. tt) (λ c κs. tt) (λ c κs. tt) returns)
