@@ -39,7 +39,9 @@ module _ (text : List ℕ) (n i : ℕ) (left : number text ≡ numberAfter n (dr
     no-digit f = here ∙ rw (le-ltb (digit byte) 10 (omega arith))
 
     pub too-large : 100000000 ≤ n → number text ≡ 0
-    too-large f = here ∙ rw (le-ltb (after (n * 10 + digit byte) rest) 1000000000 (omega (arith, after-more (n * 10 + digit byte) rest))) (by (areDigits (byte ∷ rest)))
+    too-large f =
+        let more = after-more (n * 10 + digit byte) rest in
+        here ∙ rw (le-ltb (after (n * 10 + digit byte) rest) 1000000000 (omega (arith, more))) (by (areDigits (byte ∷ rest)))
       where
         by : (t : Bool) → cond (t && false) (after (n * 10 + digit byte) rest) 0 ≡ 0
         by true = refl

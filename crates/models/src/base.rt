@@ -55,7 +55,7 @@ pub const ANGULAR_IMPULSE: Vec3 = Vec3 {
 pub const POST: u8 = 32;
 
 // Numbers, frames and the softness of a stiff joint, all else as the default has it. Every field is
-// spelled out, since one of them is an enum, which Rattle does not store into a field.
+// spelled out: a store into a field that is an enum, as type_, has no rule in the prover.
 pub fn joint_base(type_: JointType, joint: u8, body_a: u8, body_b: u8) -> JointBase
     ensures { λ r. ⌜ r ≡ D.jointBase «type_» joint «body_a» «body_b» ⌝ }
 {

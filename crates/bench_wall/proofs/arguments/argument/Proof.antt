@@ -8,4 +8,7 @@ returns : tie.Need-returns
 returns c = rw (c .number .ensures) (number-small _)
 
 pub argument-spec : {M : Type 1} → statement M
-argument-spec = tie.close (tie.spec (λ c κs. search needs) (λ c. search needs) (λ c κs. search needs) (λ c. search needs) (λ c. search needs) (λ c κs. search needs) returns)
+argument-spec =
+    tie.close
+    (tie.spec
+    (λ c κs. search needs) (λ c. search needs) (λ c κs. search needs) (λ c. search needs) (λ c. search needs) (λ c κs. search needs) returns)

@@ -33,7 +33,8 @@ loop-again : tie.Need-loop-again Inv-loop μ-loop
 loop-again c =
     let l = c .before .before .before .before .before in
     let d = c .before .before .digit in
-    (search needs, search needs, rw (d .ensures) (one-digit (l .before .before .args .text .now) (l .loop .n) (l .loop .i) (l .loop .inv .2) (search needs) (omega (arith, d .ensures))))
+    let text = l .before .before .args .text .now in
+    (search needs, search needs, rw (d .ensures) (one-digit text (l .loop .n) (l .loop .i) (l .loop .inv .2) (search needs) (omega (arith, d .ensures))))
 
 returns-3 : tie.Need-returns-3 Inv-loop μ-loop
 returns-3 c =
@@ -41,4 +42,8 @@ returns-3 c =
     sym (text-ends (l .before .before .args .text .now) (l .loop .n) (l .loop .i) (l .loop .inv .2) (search needs) (l .loop .inv .1))
 
 pub number-spec : {M : Type 1} → statement M
-number-spec = tie.close (tie.spec Inv-loop μ-loop loop-holds (λ c. search needs) (λ c κs. tt) returns returns-2 (λ c. search needs) (λ c. search needs) (λ c. search needs) (λ c. search needs) loop-again returns-3)
+number-spec =
+    tie.close
+    (tie.spec
+    Inv-loop μ-loop loop-holds (λ c. search needs) (λ c κs. tt) returns returns-2 (λ c. search needs) (λ c. search needs) (λ c. search needs)
+    (λ c. search needs) loop-again returns-3)

@@ -16,4 +16,8 @@ returns-4 : tie.Need-returns-4
 returns-4 c = rw (c .enum-told .given .1)
 
 pub add-impulses-spec : {M : Type 1} → statement M
-add-impulses-spec = tie.close (tie.spec (λ c. search needs) (λ c κs. tt) (λ c. search needs) (λ c κs. tt) (λ c. search needs) (λ c κs. tt) (λ c. search needs) returns returns-2 returns-3 returns-4)
+add-impulses-spec =
+    tie.close
+    (tie.spec
+    (λ c. search needs) (λ c κs. tt) (λ c. search needs) (λ c κs. tt) (λ c. search needs) (λ c κs. tt) (λ c. search needs) returns returns-2 returns-3
+    returns-4)

@@ -19,7 +19,8 @@ loop-holds c = (search needs, filled-none gateState (c .gate-state .result))
 loop-again : tie.Need-loop-again Inv-loop μ-loop
 loop-again c =
     let l = c .before .before in
-    (search needs, filled-more gateState (l .loop .states) (l .loop .k) (c .gate-state2 .result) (c .before .loop-test .taken) (c .gate-state2 .ensures) (l .loop .inv .1))
+    let state = c .gate-state2 in
+    (search needs, filled-more gateState (l .loop .states) (l .loop .k) (state .result) (c .before .loop-test .taken) (state .ensures) (l .loop .inv .1))
 
 returns : tie.Need-returns Inv-loop μ-loop
 unfolding gateStates
@@ -28,4 +29,8 @@ returns c =
     filled-all gateState (l .loop .states) (l .loop .k) (omega arith) (l .loop .inv .1)
 
 pub gate-states-spec : {M : Type 1} → statement M
-gate-states-spec = tie.close (tie.spec Inv-loop μ-loop (λ c κs. tt) loop-holds (λ c κs. tt) (λ c. search needs) (λ c. search needs) (λ c. search needs) (λ c. search needs) (λ c. search needs) loop-again returns)
+gate-states-spec =
+    tie.close
+    (tie.spec
+    Inv-loop μ-loop (λ c κs. tt) loop-holds (λ c κs. tt) (λ c. search needs) (λ c. search needs) (λ c. search needs) (λ c. search needs) (λ c. search needs)
+    loop-again returns)

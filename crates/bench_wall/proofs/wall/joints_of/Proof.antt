@@ -19,13 +19,21 @@ loop-holds c = (search needs, filled-none (λ i. jointOf (c .before .args .kind)
 loop-again : tie.Need-loop-again Inv-loop μ-loop
 loop-again c =
     let l = c .before .before in
-    (search needs, filled-more (λ i. jointOf (l .before .before .args .kind) i (l .before .before .args .is-prepared)) (l .loop .joints) (l .loop .k) (c .joint-of2 .result) (c .before .loop-test .taken) (c .joint-of2 .ensures) (l .loop .inv .1))
+    let a = l .before .before .args in
+    let joint = c .joint-of2 in
+    let more = filled-more (λ i. jointOf (a .kind) i (a .is-prepared)) (l .loop .joints) (l .loop .k) (joint .result) in
+    (search needs, more (c .before .loop-test .taken) (joint .ensures) (l .loop .inv .1))
 
 returns : tie.Need-returns Inv-loop μ-loop
 unfolding jointsOf
 returns c =
     let l = c .before in
-    filled-all (λ i. jointOf (l .before .before .args .kind) i (l .before .before .args .is-prepared)) (l .loop .joints) (l .loop .k) (omega arith) (l .loop .inv .1)
+    let a = l .before .before .args in
+    filled-all (λ i. jointOf (a .kind) i (a .is-prepared)) (l .loop .joints) (l .loop .k) (omega arith) (l .loop .inv .1)
 
 pub joints-of-spec : {M : Type 1} → statement M
-joints-of-spec = tie.close (tie.spec Inv-loop μ-loop (λ c κs. tt) loop-holds (λ c κs. tt) (λ c. search needs) (λ c. search needs) (λ c. search needs) (λ c. search needs) (λ c. search needs) loop-again returns)
+joints-of-spec =
+    tie.close
+    (tie.spec
+    Inv-loop μ-loop (λ c κs. tt) loop-holds (λ c κs. tt) (λ c. search needs) (λ c. search needs) (λ c. search needs) (λ c. search needs) (λ c. search needs)
+    loop-again returns)
