@@ -11,7 +11,9 @@ abbrev μ-loop : tie.MeasureT-loop
 μ-loop calls joints states₀ call₀ states call = calls - call
 
 add-call : tie.Need-add-call Inv-loop μ-loop
-add-call c = omega (arith, c .before .before .before .before .before .before .before .before .before .loop-test .taken, c .before .before .before .before .before .before .before .before .before .before .before .before .before .good)
+add-call c =
+    let l = c .before .before .before .before .before .before .before .before .before in
+    omega (arith, l .loop-test .taken, l .before .before .before .before .good)
 
 loop-less : tie.Need-loop-less Inv-loop μ-loop
 loop-less c = omega (arith, c .before .before .before .before .before .before .before .before .before .loop-test .taken)
