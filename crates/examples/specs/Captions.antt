@@ -1,54 +1,33 @@
--- The scenes that show the false sentences of docs/CAPTIONS.md: for each the figures that the definitions give, and one theorem, that they do. Assumes nothing.
-use mathlib.Core.Path.{_≡_, refl}
-use mathlib.Core.Option.{Option·elim}
+-- The scenes that show the false sentences of docs/CAPTIONS.md, and for each the figures that the definitions give. Statements and the definitions that
+-- they cite. Assumes nothing.
+use mathlib.Core.Path.{_≡_}
 use mathlib.Core.Bool.{true, false}
 use mathlib.Core.List.{List, [], _∷_}
 use Prim.Native.Nat.{ℕ}
-use lib.IntN.{pos}
 use lib.ListN.{replicate}
-use lib.Ieee as Ieee
 use lib.Ieee.{Float, nan}
-use Rattle.sqrt.specs.Sqrt as Root
 use Rattle.math_functions.specs.Float.{neg, lit, zero, one, two}
-use Rattle.math_functions.specs.Types.{vec3, quat, vec3Zero, vec3AxisX, transform, quatIdentity, mat3Zero, transformIdentity}
-use Rattle.math_functions.specs.Scalar as Scalar
-use Rattle.math_functions.specs.Vector as Vector
-use Rattle.math_functions.specs.Internal as Internal
-use Rattle.math_functions.specs.Quat as Quat
-use Rattle.math_functions.specs.Matrix as Matrix
-use Rattle.math_functions.specs.Transform as Transform
+use Rattle.math_functions.specs.Types.{vec3, quat, vec3Zero, vec3AxisX, transform, quatIdentity}
 use Rattle.solver.specs.declared.StepContext.{StepContext}
-use Rattle.solver.specs.Solver as Solver
-use Rattle.solver.specs.Solver.{noSoftness}
+use Rattle.solver.specs.Solver.{contextWith}
 use Rattle.records.specs.declared.joint.JointSim.{JointSim}
 use Rattle.records.specs.declared.joint.JointType.the-variants as Kind
 use Rattle.records.specs.declared.joint.JointUnion.{JointUnion}
 use Rattle.records.specs.declared.joint.JointUnion.the-variants.{Revolute, Spherical, Weld, Other}
 use Rattle.records.specs.declared.joint.SphericalJoint.{SphericalJoint}
 use Rattle.records.specs.declared.body.BodyState.{BodyState}
-use Rattle.records.specs.Body as Body
-use Rattle.records.specs.Body.{identityBodyState}
+use Rattle.records.specs.Body.{identityBodyState, withVelocities, withFlags}
+use Rattle.records.specs.Spherical.{defaultSpherical, withSettings}
 use Rattle.records.specs.Joint.{unusedJoint, jointSim}
-use Rattle.constraint.specs.Velocity as Velocity
-use Rattle.constraint.specs.Soft as Soft
-use Rattle.constraint.specs.Rotation as Rotation
-use Rattle.constraint.specs.Angular as Angular
-use Rattle.constraint.specs.Point as Point
-use Rattle.constraint.specs.Prepare as Prepare
-use Rattle.revolute.specs.Revolute as R
-use Rattle.spherical.specs.Spherical as S
-use Rattle.weld.specs.Weld as W
-use Rattle.joint.specs.Stage as Stage
-use Rattle.joint.specs.StopCode as Stops
+use Rattle.spherical.specs.Spherical.{prepareSphericalJoint}
+use Rattle.joint.specs.StopCode.{stopCode}
 use Rattle.scene.specs.declared.Scene.{Scene}
 use Rattle.scene.specs.declared.Run.{Run}
-use Rattle.scene.specs.Scene as Scene
 use Rattle.scene.specs.Scene.{jointAt, bodyAt}
-use Rattle.scene.specs.Plain as Plain
 use Rattle.scene.specs.Plain.{plainRun}
 use Rattle.scene.specs.Chain as Chain
 use Rattle.scene.specs.Chain.{four, eight, chain}
-use Rattle.examples.specs.Joints.{half, stepOf, jointBaseOn, hinge, free0, free1, turns0, fixed, preparedWeld, preparedHinge, moving, linearImpulseX}
+use Rattle.examples.specs.Joints.{half, jointBaseOn, hinge, free0, free1, turns0, fixed, preparedWeld, preparedHinge, moving, linearImpulseX}
 
 -- 0.25
 abbrev quarter : Float
@@ -57,7 +36,7 @@ quarter = lit 0x3e80_0000
 -- ---- the scenes
 
 abbrev halfSecond : StepContext
-halfSecond = stepOf half two true
+halfSecond = contextWith half two true
 
 -- a joint in slot 0, and two bodies, of which so many count
 abbrev sceneOf : JointSim → BodyState → BodyState → ℕ → StepContext → Scene
@@ -72,8 +51,7 @@ sceneOf joint body0 body1 count context =
 
 -- a dynamic body that turns about z
 abbrev turning : Float → BodyState
-turning z =
-    record { «linear_velocity» = vec3Zero; «angular_velocity» = vec3 zero zero z; «delta_position» = vec3Zero; «delta_rotation» = quatIdentity; flags = 0x1000 }
+turning z = withFlags (withVelocities identityBodyState vec3Zero (vec3 zero zero z)) 0x1000
 
 -- a door at angle 0 on its hinge, which turns at a speed: its two stops, and the push that is stored at the lower one
 abbrev door : Float → Float → Float → Float → Scene
@@ -87,13 +65,8 @@ driven context = sceneOf (preparedHinge (hinge true two four false zero zero zer
 -- a ball joint at rest with its twist limit on, whose frame B is turned half round about x: the two z axes are opposite
 abbrev ball : SphericalJoint
 ball =
-    record {
-      «linear_impulse» = vec3Zero;
-      «spring_impulse» = vec3Zero;
-      «motor_impulse» = vec3Zero;
-      «lower_twist_impulse» = zero;
-      «upper_twist_impulse» = zero;
-      «swing_impulse» = zero;
+    withSettings defaultSpherical
+    (record {
       hertz = zero;
       «damping_ratio» = zero;
       «max_motor_torque» = zero;
@@ -102,27 +75,16 @@ ball =
       «upper_twist_angle» = quarter;
       «cone_angle» = zero;
       «target_rotation» = quatIdentity;
-      «index_a» = pos 0;
-      «index_b» = pos 0;
-      «frame_a» = transformIdentity;
-      «frame_b» = transformIdentity;
-      «delta_center» = vec3Zero;
-      «swing_axis» = vec3Zero;
-      «twist_jacobian» = vec3Zero;
-      «rotation_mass» = mat3Zero;
-      «swing_mass» = zero;
-      «twist_mass» = zero;
-      «spring_softness» = noSoftness;
       «enable_spring» = false;
       «enable_motor» = false;
       «enable_cone_limit» = false;
       «enable_twist_limit» = true;
-    }
+    })
 
 abbrev opposite : Scene
 opposite =
     let base = jointBaseOn Kind.Spherical (transform vec3Zero (quat vec3AxisX zero)) in
-    sceneOf (S.prepareSphericalJoint (jointSim base (Spherical ball)) halfSecond fixed turns0 .joint) (turning zero) identityBodyState 1 halfSecond
+    sceneOf (prepareSphericalJoint (jointSim base (Spherical ball)) halfSecond fixed turns0 .joint) (turning zero) identityBodyState 1 halfSecond
 
 -- example 13's two welded blocks of inverse mass 1, with states of our own
 abbrev blocks : BodyState → BodyState → Scene
@@ -141,7 +103,7 @@ abbrev turnOf : Run → Float
 turnOf r = bodyAt (r .scene) 0 .«angular_velocity» .z
 
 abbrev stopOf : Run → ℕ
-stopOf r = Stops.stopCode (jointAt (r .scene) 0) .code
+stopOf r = stopCode (jointAt (r .scene) 0) .code
 
 abbrev lowerOf : JointUnion → Float
 lowerOf (Revolute j) = j .«lower_impulse»
@@ -177,7 +139,7 @@ warmThenSolve = 0 ∷ 0 ∷ 0 ∷ 2 ∷ []
 abbrev solveThenWarm : List ℕ
 solveThenWarm = 0 ∷ 2 ∷ 0 ∷ 0 ∷ []
 
--- ---- the figures, each behind the sentence that it shows to be false
+-- ---- the figures, each below the sentence that it shows to be false
 
 pub record Shown : Type 0 where
   -- 'code 1 means that the door stands at its lower stop': a quarter of a radian away, and swinging towards it
@@ -192,8 +154,12 @@ pub record Shown : Type 0 where
   pub zero-push : (lower (plainRun opposite solve) ≡ zero) × (upper (plainRun opposite solve) ≡ zero)
   pub no-speed : turnOf (plainRun opposite solve) ≡ nan
   -- 'a joint's own calls may change places'
-  pub one-order : (xOf (plainRun (blocks (moving zero) (moving two)) warmThenSolve) 0 ≡ one) × (xOf (plainRun (blocks (moving zero) (moving two)) warmThenSolve) 1 ≡ one)
-  pub other-order : (xOf (plainRun (blocks (moving zero) (moving two)) solveThenWarm) 0 ≡ two) × (xOf (plainRun (blocks (moving zero) (moving two)) solveThenWarm) 1 ≡ zero)
+  pub one-order :
+      (xOf (plainRun (blocks (moving zero) (moving two)) warmThenSolve) 0 ≡ one)
+      × (xOf (plainRun (blocks (moving zero) (moving two)) warmThenSolve) 1 ≡ one)
+  pub other-order :
+      (xOf (plainRun (blocks (moving zero) (moving two)) solveThenWarm) 0 ≡ two)
+      × (xOf (plainRun (blocks (moving zero) (moving two)) solveThenWarm) 1 ≡ zero)
   -- 'a list is worked up to its mistake': no joint stands in slot 5
   pub refused : (plainRun (chain 0x1000) (0 ∷ 2 ∷ 5 ∷ 2 ∷ []) .number ≡ 4) × (plainRun (chain 0x1000) (0 ∷ 2 ∷ 5 ∷ 2 ∷ []) .place ≡ 1)
   pub not-begun : xOf (plainRun (chain 0x1000) (0 ∷ 2 ∷ 5 ∷ 2 ∷ [])) 0 ≡ four
@@ -212,37 +178,7 @@ pub record Shown : Type 0 where
   pub empty-not-still : plainRun (blocks (moving nan) (moving two)) [] .still ≡ false
   -- 'the same parts and joints give the same figures': half the step, half the turn
   pub long-step : turnOf (plainRun (driven halfSecond) solve) ≡ one
-  pub short-step : turnOf (plainRun (driven (stepOf quarter four true)) solve) ≡ half
+  pub short-step : turnOf (plainRun (driven (contextWith quarter four true)) solve) ≡ half
   -- 'a joint that comes back unchanged was refused': blocks at rest
   pub rest-accepted : plainRun (blocks (moving zero) (moving zero)) solve .number ≡ 0
   pub rest-unchanged : plainRun (blocks (moving zero) (moving zero)) solve .scene ≡ blocks (moving zero) (moving zero)
-
--- the checker computes each
-pub shown : Shown
-unfolding Option·elim Ieee.ofBits Ieee.neg Ieee.add Ieee.sub Ieee.mul Ieee.div Ieee.lt Ieee.eq Root.sqrt Scalar.absFloat Scalar.minFloat Scalar.maxFloat Scalar.clampFloat Scalar.atanUnit Scalar.atan2 Vector.add Vector.sub Vector.neg Vector.dot Vector.length Vector.normalize Vector.mulAdd Vector.mulSub Vector.mulSv Vector.cross Internal.add2 Internal.sub2 Internal.mulSv2 Quat.rotateVector Quat.dotQuat Quat.mulQuat Quat.invMulQuat Quat.conjugate Quat.negateQuat Quat.getTwistAngle Quat.deltaQuatToRotation Quat.getSwingAngle Matrix.det Matrix.mulMv Matrix.negateMat3 Matrix.addMm Matrix.mulMm Matrix.transpose Matrix.invertMatrix Matrix.solve3 Matrix.det2 Matrix.solve2 Matrix.skew Transform.subPos Solver.makeSoft Body.isDynamic Body.storeVelocities Velocity.velocitiesOf Velocity.invMassesOf Velocity.applyAxial Velocity.applyAxialFlipped Velocity.applyAngular Velocity.applyPoint Velocity.applyWarm Soft.softBias Soft.softBias2 Soft.softBias3 Soft.limitBias Soft.softImpulse Soft.softImpulse3 Soft.softImpulse3Products Rotation.samePolarity Rotation.relativeRotation Rotation.flippedRelativeRotation Angular.isWorked Angular.lowerLimitRow Angular.upperLimitRow Angular.angularRow Angular.twistLimitRows Point.pointBias Point.pointMass Point.pointCdot Point.pointCdotGrouped Prepare.prepareBase Prepare.awakeIndex Prepare.prepareFrame Prepare.axialMass R.springRow R.motorRow R.perpAxis R.perpBias R.perpMass R.softImpulse2Products R.perpAngularImpulse R.collinearRow R.perpRow R.pointRow R.jointRotation R.solveSpring R.solveMotor R.solveLimits R.solvePerp R.solvePoint R.solveRevolute R.warmAngularImpulse R.warmStartRevolute R.keepImpulses R.prepareRevolute R.prepareRevoluteJoint W.rowSpring W.keepImpulses W.prepareWeld W.warmStartWeld W.isSoft W.angularBias W.weldAngularRow W.pointRow W.solveAngular W.solvePoint W.solveWeld W.prepareWeldJoint Stage.warmStartJoint Stage.solveJoint Stage.stageJoint Scene.store Soft.limitSum Soft.limitImpulse S.springRow S.limitLength S.motorRow S.coneRow S.pointRow S.prepareSwing S.twistJacobian S.prepareTwist S.prepareRotationMass S.keepImpulses S.prepareSpherical S.warmStartSpherical S.solveSpherical S.prepareSphericalJoint Plain.cause Plain.earlyCause Plain.verdict Plain.step Plain.sameVelocities Plain.isStill Plain.plainRun Stops.isPushing Stops.sumStops Stops.revoluteStops Stops.sphericalStops Stops.stopsOf Stops.stopCode chain
-shown =
-    record {
-      pushes-early = refl;
-      code-early = refl;
-      code-beyond = refl;
-      pulls-midway = refl;
-      pushes-at-the-end = refl;
-      zero-push = (refl, refl);
-      no-speed = refl;
-      one-order = (refl, refl);
-      other-order = (refl, refl);
-      refused = (refl, refl);
-      not-begun = refl;
-      nan-accepted = refl;
-      nan-speeds = (refl, refl);
-      still-pushed = refl;
-      kept-speeds = (refl, refl);
-      stored-impulse = refl;
-      flies-on = refl;
-      still-flying = (refl, refl);
-      empty-not-still = refl;
-      long-step = refl;
-      short-step = refl;
-      rest-accepted = refl;
-      rest-unchanged = refl;
-    }

@@ -8,7 +8,7 @@ use Rattle.math_functions.specs.declared.types.Transform.{Transform}
 use Rattle.math_functions.specs.Float.{lit, zero, one}
 use Rattle.math_functions.specs.Types.{matrix3, vec2Zero, vec3Zero, vec3AxisX, vec3AxisY, vec3AxisZ, quatIdentity, mat3Zero, transformIdentity}
 use Rattle.solver.specs.declared.StepContext.{StepContext}
-use Rattle.solver.specs.Solver.{noSoftness}
+use Rattle.solver.specs.Solver.{noSoftness, contextWith}
 use Rattle.records.specs.declared.body.BodyState.{BodyState}
 use Rattle.records.specs.declared.body.BodyRecord.{BodyRecord}
 use Rattle.records.specs.declared.joint.JointBase.{JointBase}
@@ -18,6 +18,9 @@ use Rattle.records.specs.declared.joint.JointSim.{JointSim}
 use Rattle.records.specs.declared.joint.JointUnion.{JointUnion}
 use Rattle.records.specs.declared.joint.JointUnion.the-variants.{Revolute, Spherical, Weld, Other}
 use Rattle.records.specs.declared.joint.RevoluteJoint.{RevoluteJoint}
+use Rattle.records.specs.Base.{built, settingsWith, nothingMade}
+use Rattle.records.specs.Revolute.{defaultRevolute, withSettings}
+use Rattle.records.specs.Weld.{defaultWeld}
 use Rattle.records.specs.Joint.{jointSim}
 use Rattle.revolute.specs.Revolute as R
 use Rattle.weld.specs.Weld as W
@@ -30,47 +33,13 @@ half = lit 0x3f00_0000
 abbrev pub mat3Identity : Matrix3
 mat3Identity = matrix3 vec3AxisX vec3AxisY vec3AxisZ
 
--- a step by its length, the inverse of that, and whether joints are warm started
-abbrev pub stepOf : Float → Float → Bool → StepContext
-stepOf h invH enableWarmStarting =
-    record {
-      dt = zero;
-      «inv_dt» = zero;
-      h = h;
-      «inv_h» = invH;
-      «sub_step_count» = pos 0;
-      «contact_softness» = noSoftness;
-      «static_softness» = noSoftness;
-      «restitution_threshold» = zero;
-      «max_linear_velocity» = zero;
-      «contact_speed» = zero;
-      «enable_warm_starting» = enableWarmStarting;
-    }
-
+-- a step by its length
 abbrev pub step : Float → StepContext
-step h = stepOf h zero false
+step h = contextWith h zero false
 
 -- the common part of a joint, by its type and the frame on B
 abbrev pub jointBaseOn : JointType → Transform → JointBase
-jointBaseOn type frameB =
-    record {
-      «joint_id» = pos 0;
-      «body_id_a» = pos 0;
-      «body_id_b» = pos 0;
-      «type_» = type;
-      «local_frame_a» = transformIdentity;
-      «local_frame_b» = frameB;
-      «inv_mass_a» = zero;
-      «inv_mass_b» = zero;
-      «inv_i_a» = mat3Zero;
-      «inv_i_b» = mat3Zero;
-      «constraint_hertz» = zero;
-      «constraint_damping_ratio» = zero;
-      «constraint_softness» = noSoftness;
-      «force_threshold» = zero;
-      «torque_threshold» = zero;
-      «fixed_rotation» = false;
-    }
+jointBaseOn type frameB = built (settingsWith (pos 0) (pos 0) (pos 0) type transformIdentity frameB noSoftness) nothingMade
 
 abbrev pub jointBase : JointType → JointBase
 jointBase type = jointBaseOn type transformIdentity
@@ -78,13 +47,9 @@ jointBase type = jointBaseOn type transformIdentity
 -- a hinge by its motor's switch, torque and speed, and its limit's switch, two angles and the impulse that is stored at the lower one
 abbrev pub hinge : Bool → Float → Float → Bool → Float → Float → Float → RevoluteJoint
 hinge enableMotor maxMotorTorque motorSpeed enableLimit lowerAngle upperAngle lowerImpulse =
-    record {
-      «linear_impulse» = vec3Zero;
-      «perp_impulse» = vec2Zero;
-      «spring_impulse» = zero;
-      «motor_impulse» = zero;
-      «lower_impulse» = lowerImpulse;
-      «upper_impulse» = zero;
+    withSettings
+    (R.withImpulses defaultRevolute vec3Zero vec2Zero zero zero lowerImpulse zero vec3Zero vec3Zero)
+    (record {
       hertz = zero;
       «damping_ratio» = zero;
       «max_motor_torque» = maxMotorTorque;
@@ -92,21 +57,10 @@ hinge enableMotor maxMotorTorque motorSpeed enableLimit lowerAngle upperAngle lo
       «target_angle» = zero;
       «lower_angle» = lowerAngle;
       «upper_angle» = upperAngle;
-      «index_a» = pos 0;
-      «index_b» = pos 0;
-      «frame_a» = transformIdentity;
-      «frame_b» = transformIdentity;
-      «rotation_axis_z» = vec3Zero;
-      «perp_axis_x» = vec3Zero;
-      «perp_axis_y» = vec3Zero;
-      «delta_center» = vec3Zero;
-      «delta_angle» = zero;
-      «axial_mass» = zero;
-      «spring_softness» = noSoftness;
       «enable_spring» = false;
       «enable_motor» = enableMotor;
       «enable_limit» = enableLimit;
-    }
+    })
 
 abbrev pub motorJoint : Float → Float → RevoluteJoint
 motorJoint maxMotorTorque motorSpeed = hinge true maxMotorTorque motorSpeed false zero zero zero
@@ -140,7 +94,7 @@ fixed = body (pos 0) (pos 0) zero mat3Zero
 
 -- a weld joint, prepared
 abbrev pub preparedWeld : BodyRecord → BodyRecord → JointSim
-preparedWeld bodyA bodyB = W.prepareWeldJoint (jointSim (jointBase Kind.Weld) (Chain.weld 0 0 .«union_»)) (step zero) bodyA bodyB .joint
+preparedWeld bodyA bodyB = W.prepareWeldJoint (jointSim (jointBase Kind.Weld) (Weld defaultWeld)) (step zero) bodyA bodyB .joint
 
 -- a hinge of the world and body 0, prepared
 abbrev pub preparedHinge : RevoluteJoint → StepContext → JointSim

@@ -1,4 +1,3 @@
-pub mod Same
 pub mod Joints
 pub mod Examples
 pub mod Captions

@@ -1,13 +1,11 @@
 // Examples 13 to 16: prepared joints, one stage, and the states as they are stored.
 use crate::scenes::body;
 use crate::scenes::fixed_body;
-use crate::scenes::fixed_state;
 use crate::scenes::joint_base;
 use crate::scenes::moving;
 use crate::scenes::point_body;
 use crate::scenes::revolute_joint;
 use crate::scenes::step;
-use crate::scenes::weld_joint;
 use crate::words::MINUS_ONE;
 use crate::words::MINUS_TWO;
 use crate::words::ONE;
@@ -23,6 +21,8 @@ use math_functions::types::VEC3_AXIS_Z;
 use records::AWAKE_SET;
 use records::body::BodyRecord;
 use records::body::BodyState;
+use records::body::IDENTITY_BODY_STATE;
+use records::joint::DEFAULT_WELD_JOINT;
 use records::joint::JointSim;
 use records::joint::JointType;
 use records::joint::JointUnion;
@@ -35,7 +35,7 @@ use weld::warm_start_weld_joint;
 fn weld_sim() -> JointSim {
     JointSim {
         base: joint_base(JointType::Weld),
-        union_: JointUnion::Weld(weld_joint()),
+        union_: JointUnion::Weld(DEFAULT_WELD_JOINT),
     }
 }
 
@@ -70,7 +70,7 @@ pub fn is_13() -> bool {
 }
 
 pub fn is_14() -> bool {
-    let a = fixed_state();
+    let a = IDENTITY_BODY_STATE;
     let b = moving(2.0);
     let s = solved_weld(fixed_body(), point_body(0), a, b);
     let after = store_pair(a, b, false, s.velocities);
@@ -108,7 +108,7 @@ fn prepared_motor() -> JointSim {
 }
 
 pub fn is_15() -> bool {
-    let a = fixed_state();
+    let a = IDENTITY_BODY_STATE;
     let b = moving(0.0);
     let s = solve_revolute_joint(prepared_motor(), step(0.5), a, b, false);
     let after = store_pair(a, b, false, s.velocities);

@@ -1,0 +1,4 @@
+pub mod Same
+pub mod Computed
+pub mod Examples
+pub mod Captions
