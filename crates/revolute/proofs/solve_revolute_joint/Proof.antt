@@ -10,20 +10,12 @@ use Rattle.revolute.proofs.solve_revolute_joint.Tie as tie
 returns : tie.Need-returns
 returns c =
     let args = c .before .before .args in
-    rw (
-      solve-refused (args .joint) (args .context) (args .state-a) (args .state-b) (args .use-bias)
-          (not-revolute (args .joint .«union_») (c .before .match .keys2)),
-      ← (c .solve-refused .ensures),
-    )
+    let other = not-revolute (args .joint .«union_») (c .before .match .keys2) in
+    rw (solve-refused (args .joint) (args .context) (args .state-a) (args .state-b) (args .use-bias) other, ← (c .velocities-of .ensures))
 
 returns-2 : tie.Need-returns-2
 unfolding solveRevoluteJoint Option·elim
-returns-2 c = rw (
-  c .before .before .before .before .before .u .given .1,
-  ← (c .before .before .before .solve-revolute .ensures),
-  ← (c .before .revolute-sim .ensures),
-  ← (c .solve-done .ensures),
-)
+returns-2 c = rw (c .before .before .before .before .u .given .1, ← (c .before .before .solve-revolute .ensures), ← (c .revolute-sim .ensures))
 
 pub solve-revolute-joint-spec : {M : Type 1} → statement M
-solve-revolute-joint-spec = tie.close (tie.spec (λ c. search needs) (λ c κs. tt) returns (λ c κs. tt) (λ c κs. tt) (λ c κs. tt) returns-2)
+solve-revolute-joint-spec = tie.close (tie.spec (λ c. search needs) (λ c κs. tt) returns (λ c κs. tt) (λ c κs. tt) returns-2)

@@ -10,10 +10,8 @@ use Rattle.revolute.proofs.warm_start_revolute_joint.Tie as tie
 returns : tie.Need-returns
 returns c =
     let args = c .before .before .args in
-    rw (
-      warm-start-refused (args .joint) (args .state-a) (args .state-b) (not-revolute (args .joint .«union_») (c .before .match .keys2)),
-      ← (c .warm-start-refused .ensures),
-    )
+    let other = not-revolute (args .joint .«union_») (c .before .match .keys2) in
+    rw (warm-start-refused (args .joint) (args .state-a) (args .state-b) other, ← (c .warm-start-refused .ensures))
 
 returns-2 : tie.Need-returns-2
 unfolding warmStartRevoluteJoint Option·elim
