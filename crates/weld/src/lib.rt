@@ -1,5 +1,7 @@
 // The weld joint: a rigid connection (optionally softened by linear/angular springs) that locks the
-// relative position and orientation of two frames. Its three stages, over a joint of any kind.
+// relative position and orientation of two frames. Its three stages, over a joint of any kind. Prepare
+// and solve put their answers together themselves: made by calls, as the warm start's, they are copied
+// once more, which costs 68 instructions a prepare and 107 a solve where stages are called one by one.
 ghost use mathlib.Core.Path.{_≡_};
 ghost use Rattle.records.specs.Joint.{jointSim};
 ghost use Rattle.records.specs.declared.joint.JointUnion.the-variants.{Weld};
@@ -9,13 +11,11 @@ use crate::solve::solve_weld;
 use crate::warm_start::warm_start_weld;
 use constraint::answer::Prepared;
 use constraint::answer::Solved;
+use constraint::answer::WRONG_KIND;
 use constraint::answer::WarmStarted;
-use constraint::answer::prepare_done;
-use constraint::answer::prepare_refused;
-use constraint::answer::solve_done;
-use constraint::answer::solve_refused;
 use constraint::answer::warm_start_done;
 use constraint::answer::warm_start_refused;
+use constraint::velocity::velocities_of;
 use math_functions::transform::sub_pos;
 use records::body::BodyRecord;
 use records::body::BodyState;
@@ -51,7 +51,11 @@ pub fn prepare_weld_joint(
 {
     let u = joint.union_;
     let JointUnion::Weld(k) = u else {
-        return prepare_refused(joint);
+        return Prepared {
+            number: WRONG_KIND,
+            place: 0,
+            joint,
+        };
     };
     let delta_center = sub_pos(body_b.center, body_a.center);
     let p = prepare_weld(
@@ -64,7 +68,11 @@ pub fn prepare_weld_joint(
         body_b,
     );
     joint = weld_sim(p.base, p.joint);
-    prepare_done(joint)
+    Prepared {
+        number: 0,
+        place: 0,
+        joint,
+    }
 }
 
 // Warm start; a joint that is no weld joint is refused.
@@ -91,10 +99,20 @@ pub fn solve_weld_joint(
 {
     let u = joint.union_;
     let JointUnion::Weld(k) = u else {
-        return solve_refused(joint, state_a, state_b);
+        return Solved {
+            number: WRONG_KIND,
+            place: 0,
+            joint,
+            velocities: velocities_of(state_a, state_b),
+        };
     };
     let s = solve_weld(joint.base, k, state_a, state_b, use_bias);
     let velocities = s.velocities;
     joint = weld_sim(joint.base, s.joint);
-    solve_done(joint, velocities)
+    Solved {
+        number: 0,
+        place: 0,
+        joint,
+        velocities,
+    }
 }

@@ -8,19 +8,18 @@ use Rattle.weld.proofs.prepare_weld_joint.Tie as tie
 
 returns : tie.Need-returns
 returns c =
-    let args = c .before .before .args in
-    let other = not-weld (args .joint .«union_») (c .before .match .keys2) in
-    rw (prepare-refused (args .joint) (args .context) (args .body-a) (args .body-b) other, ← (c .prepare-refused .ensures))
+    let args = c .before .args in
+    let other = not-weld (args .joint .«union_») (c .match .keys2) in
+    rw (prepare-refused (args .joint) (args .context) (args .body-a) (args .body-b) other)
 
 returns-2 : tie.Need-returns-2
 unfolding prepareWeldJoint Option·elim
 returns-2 c = rw (
-  c .before .before .before .before .before .u .given .1,
-  ← (c .before .before .before .sub-pos .ensures),
-  ← (c .before .before .prepare-weld .ensures),
-  ← (c .before .weld-sim .ensures),
-  ← (c .prepare-done .ensures),
+  c .before .before .before .before .u .given .1,
+  ← (c .before .before .sub-pos .ensures),
+  ← (c .before .prepare-weld .ensures),
+  ← (c .weld-sim .ensures),
 )
 
 pub prepare-weld-joint-spec : {M : Type 1} → statement M
-prepare-weld-joint-spec = tie.close (tie.spec (λ c. search needs) (λ c κs. tt) returns (λ c κs. tt) (λ c κs. tt) (λ c κs. tt) (λ c κs. tt) returns-2)
+prepare-weld-joint-spec = tie.close (tie.spec (λ c. search needs) returns (λ c κs. tt) (λ c κs. tt) (λ c κs. tt) returns-2)

@@ -10,16 +10,11 @@ returns : tie.Need-returns
 returns c =
     let args = c .before .before .args in
     let other = not-weld (args .joint .«union_») (c .before .match .keys2) in
-    rw (solve-refused (args .joint) (args .context) (args .state-a) (args .state-b) (args .use-bias) other, ← (c .solve-refused .ensures))
+    rw (solve-refused (args .joint) (args .context) (args .state-a) (args .state-b) (args .use-bias) other, ← (c .velocities-of .ensures))
 
 returns-2 : tie.Need-returns-2
 unfolding solveWeldJoint Option·elim
-returns-2 c = rw (
-  c .before .before .before .before .before .u .given .1,
-  ← (c .before .before .before .solve-weld .ensures),
-  ← (c .before .weld-sim .ensures),
-  ← (c .solve-done .ensures),
-)
+returns-2 c = rw (c .before .before .before .before .u .given .1, ← (c .before .before .solve-weld .ensures), ← (c .weld-sim .ensures))
 
 pub solve-weld-joint-spec : {M : Type 1} → statement M
-solve-weld-joint-spec = tie.close (tie.spec (λ c. search needs) (λ c κs. tt) returns (λ c κs. tt) (λ c κs. tt) (λ c κs. tt) returns-2)
+solve-weld-joint-spec = tie.close (tie.spec (λ c. search needs) (λ c κs. tt) returns (λ c κs. tt) (λ c κs. tt) returns-2)
