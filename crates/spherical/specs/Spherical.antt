@@ -249,7 +249,7 @@ solveSpherical base j h invH stateA stateB useBias =
 
 -- ==== The stages over a joint of any kind
 
--- One whose case is not Spherical gets number 1, place 0, and nothing is altered.
+-- A joint whose case is not Spherical gets number 1, place 0, and nothing is altered.
 
 -- of the context h and enable_warm_starting
 unfoldable pub prepareSphericalJoint : JointSim → StepContext → BodyRecord → BodyRecord → Prepared
