@@ -1,5 +1,5 @@
 // The answers of the stages: a number, which is 0 where the work was done, with its place, and what
-// the stage leaves. Each is put together here and nowhere else.
+// the stage leaves.
 ghost use mathlib.Core.Path.{_≡_};
 ghost use Rattle.constraint.specs.Answer as D;
 use crate::velocity::Velocities;
@@ -30,27 +30,6 @@ pub struct Solved {
     pub velocities: Velocities,
 }
 
-pub fn prepare_done(joint: JointSim) -> Prepared
-    ensures { λ r. ⌜ r ≡ D.prepared joint ⌝ }
-{
-    Prepared {
-        number: 0,
-        place: 0,
-        joint,
-    }
-}
-
-// The joint's case is not the kind called.
-pub fn prepare_refused(joint: JointSim) -> Prepared
-    ensures { λ r. ⌜ r ≡ D.notPrepared joint ⌝ }
-{
-    Prepared {
-        number: WRONG_KIND,
-        place: 0,
-        joint,
-    }
-}
-
 pub fn warm_start_done(joint: JointSim, velocities: Velocities) -> WarmStarted
     ensures { λ r. ⌜ r ≡ D.warmStarted joint velocities ⌝ }
 {
@@ -66,28 +45,6 @@ pub fn warm_start_refused(joint: JointSim, state_a: BodyState, state_b: BodyStat
     ensures { λ r. ⌜ r ≡ D.notWarmStarted joint «state_a» «state_b» ⌝ }
 {
     WarmStarted {
-        number: WRONG_KIND,
-        place: 0,
-        joint,
-        velocities: velocities_of(state_a, state_b),
-    }
-}
-
-pub fn solve_done(joint: JointSim, velocities: Velocities) -> Solved
-    ensures { λ r. ⌜ r ≡ D.solved joint velocities ⌝ }
-{
-    Solved {
-        number: 0,
-        place: 0,
-        joint,
-        velocities,
-    }
-}
-
-pub fn solve_refused(joint: JointSim, state_a: BodyState, state_b: BodyState) -> Solved
-    ensures { λ r. ⌜ r ≡ D.notSolved joint «state_a» «state_b» ⌝ }
-{
-    Solved {
         number: WRONG_KIND,
         place: 0,
         joint,

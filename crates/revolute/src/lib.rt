@@ -1,7 +1,6 @@
 // The revolute joint: a hinge, which lets two bodies turn about one axis, with a spring, a motor and
 // limits. Its three stages, over a joint of any kind. Prepare and solve put their answers together
-// themselves: made by calls, as the warm start's, they are copied once more, which costs some 150
-// instructions a prepare and some 5 a solve where stages are called one by one.
+// themselves: made by a call, as the warm start's, they would be copied once more.
 ghost use mathlib.Core.Path.{_≡_};
 ghost use Rattle.records.specs.Joint.{jointSim};
 ghost use Rattle.records.specs.declared.joint.JointUnion.the-variants.{Revolute};

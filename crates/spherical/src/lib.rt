@@ -1,5 +1,6 @@
-// The ball joint: prepare, warm start and solve. A joint whose case is not spherical gets number 1,
-// and comes back as it was.
+// The spherical joint: a ball in its socket, with a spring, a motor, a twist limit and a cone. Its
+// three stages, over a joint of any kind. Prepare and solve put their answers together themselves:
+// made by a call, as the warm start's, they would be copied once more.
 ghost use mathlib.Core.Path.{_≡_};
 ghost use Rattle.records.specs.Joint.{jointSim};
 ghost use Rattle.records.specs.declared.joint.JointUnion.the-variants.{Spherical};
@@ -9,13 +10,11 @@ use crate::solve::solve_spherical;
 use crate::warm_start::warm_start_spherical;
 use constraint::answer::Prepared;
 use constraint::answer::Solved;
+use constraint::answer::WRONG_KIND;
 use constraint::answer::WarmStarted;
-use constraint::answer::prepare_done;
-use constraint::answer::prepare_refused;
-use constraint::answer::solve_done;
-use constraint::answer::solve_refused;
 use constraint::answer::warm_start_done;
 use constraint::answer::warm_start_refused;
+use constraint::velocity::velocities_of;
 use math_functions::transform::sub_pos;
 use records::body::BodyRecord;
 use records::body::BodyState;
@@ -40,6 +39,7 @@ fn spherical_sim(base: JointBase, joint: SphericalJoint) -> JointSim
     }
 }
 
+// Prepare; a joint that is no spherical joint is refused.
 pub fn prepare_spherical_joint(
     mut joint: JointSim,
     context: StepContext,
@@ -50,10 +50,14 @@ pub fn prepare_spherical_joint(
 {
     let u = joint.union_;
     let JointUnion::Spherical(k) = u else {
-        return prepare_refused(joint);
+        return Prepared {
+            number: WRONG_KIND,
+            place: 0,
+            joint,
+        };
     };
     let delta_center = sub_pos(body_b.center, body_a.center);
-    let next = prepare_spherical(
+    let p = prepare_spherical(
         joint.base,
         k,
         context.h,
@@ -62,11 +66,15 @@ pub fn prepare_spherical_joint(
         body_a,
         body_b,
     );
-    joint = spherical_sim(next.base, next.joint);
-    prepare_done(joint)
+    joint = spherical_sim(p.base, p.joint);
+    Prepared {
+        number: 0,
+        place: 0,
+        joint,
+    }
 }
 
-// The joint is read only.
+// Warm start; the joint comes back as it was, and one of another kind is refused.
 pub fn warm_start_spherical_joint(
     joint: JointSim,
     state_a: BodyState,
@@ -82,6 +90,7 @@ pub fn warm_start_spherical_joint(
     warm_start_done(joint, velocities)
 }
 
+// Solve; a joint that is no spherical joint is refused.
 pub fn solve_spherical_joint(
     mut joint: JointSim,
     context: StepContext,
@@ -93,9 +102,14 @@ pub fn solve_spherical_joint(
 {
     let u = joint.union_;
     let JointUnion::Spherical(k) = u else {
-        return solve_refused(joint, state_a, state_b);
+        return Solved {
+            number: WRONG_KIND,
+            place: 0,
+            joint,
+            velocities: velocities_of(state_a, state_b),
+        };
     };
-    let next = solve_spherical(
+    let s = solve_spherical(
         joint.base,
         k,
         context.h,
@@ -104,7 +118,12 @@ pub fn solve_spherical_joint(
         state_b,
         use_bias,
     );
-    let velocities = next.velocities;
-    joint = spherical_sim(joint.base, next.joint);
-    solve_done(joint, velocities)
+    let velocities = s.velocities;
+    joint = spherical_sim(joint.base, s.joint);
+    Solved {
+        number: 0,
+        place: 0,
+        joint,
+        velocities,
+    }
 }

@@ -1,7 +1,7 @@
 // The weld joint: a rigid connection (optionally softened by linear/angular springs) that locks the
 // relative position and orientation of two frames. Its three stages, over a joint of any kind. Prepare
-// and solve put their answers together themselves: made by calls, as the warm start's, they are copied
-// once more, which costs 68 instructions a prepare and 107 a solve where stages are called one by one.
+// and solve put their answers together themselves: made by a call, as the warm start's, they would be
+// copied once more.
 ghost use mathlib.Core.Path.{_≡_};
 ghost use Rattle.records.specs.Joint.{jointSim};
 ghost use Rattle.records.specs.declared.joint.JointUnion.the-variants.{Weld};

@@ -1,4 +1,4 @@
--- `prepare_spherical_joint` equals its definition. Assumes nothing.
+-- `prepare_spherical_joint` equals its definition: a joint of another case by the fact that it is refused. Assumes nothing.
 use mathlib.Core.Option.{Option·elim}
 use borrow.Author.Needs.{needs}
 use Rattle.records.proofs.Cases.{not-spherical}
@@ -9,18 +9,18 @@ use Rattle.spherical.proofs.prepare_spherical_joint.Tie as tie
 
 returns : tie.Need-returns
 returns c =
-    let a = c .before .before .args in
-    let other = not-spherical (a .joint .«union_») (c .before .match .keys2) in
-    rw (prepare-refused (a .joint) (a .context) (a .body-a) (a .body-b) other) (c .prepare-refused .ensures)
+    let args = c .before .args in
+    let other = not-spherical (args .joint .«union_») (c .match .keys2) in
+    rw (prepare-refused (args .joint) (args .context) (args .body-a) (args .body-b) other)
 
 returns-2 : tie.Need-returns-2
 unfolding prepareSphericalJoint Option·elim
 returns-2 c = rw (
-  c .before .before .before .before .before .u .given .1,
-  ← (c .before .before .before .sub-pos .ensures),
-  ← (c .before .before .prepare-spherical .ensures),
-  ← (c .before .spherical-sim .ensures),
-) (c .prepare-done .ensures)
+  c .before .before .before .before .u .given .1,
+  ← (c .before .before .sub-pos .ensures),
+  ← (c .before .prepare-spherical .ensures),
+  ← (c .spherical-sim .ensures),
+)
 
 pub prepare-spherical-joint-spec : {M : Type 1} → statement M
-prepare-spherical-joint-spec = tie.close (tie.spec (λ c. search needs) (λ c κs. tt) returns (λ c κs. tt) (λ c κs. tt) (λ c κs. tt) (λ c κs. tt) returns-2)
+prepare-spherical-joint-spec = tie.close (tie.spec (λ c. search needs) returns (λ c κs. tt) (λ c κs. tt) (λ c κs. tt) returns-2)

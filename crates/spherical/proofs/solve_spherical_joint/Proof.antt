@@ -1,4 +1,4 @@
--- `solve_spherical_joint` equals its definition. Assumes nothing.
+-- `solve_spherical_joint` equals its definition: a joint of another case by the fact that it is refused. Assumes nothing.
 use mathlib.Core.Option.{Option·elim}
 use borrow.Author.Needs.{needs}
 use Rattle.records.proofs.Cases.{not-spherical}
@@ -9,17 +9,13 @@ use Rattle.spherical.proofs.solve_spherical_joint.Tie as tie
 
 returns : tie.Need-returns
 returns c =
-    let a = c .before .before .args in
-    let other = not-spherical (a .joint .«union_») (c .before .match .keys2) in
-    rw (solve-refused (a .joint) (a .context) (a .state-a) (a .state-b) (a .use-bias) other) (c .solve-refused .ensures)
+    let args = c .before .before .args in
+    let other = not-spherical (args .joint .«union_») (c .before .match .keys2) in
+    rw (solve-refused (args .joint) (args .context) (args .state-a) (args .state-b) (args .use-bias) other, ← (c .velocities-of .ensures))
 
 returns-2 : tie.Need-returns-2
 unfolding solveSphericalJoint Option·elim
-returns-2 c = rw (
-  c .before .before .before .before .before .u .given .1,
-  ← (c .before .before .before .solve-spherical .ensures),
-  ← (c .before .spherical-sim .ensures),
-) (c .solve-done .ensures)
+returns-2 c = rw (c .before .before .before .before .u .given .1, ← (c .before .before .solve-spherical .ensures), ← (c .spherical-sim .ensures))
 
 pub solve-spherical-joint-spec : {M : Type 1} → statement M
-solve-spherical-joint-spec = tie.close (tie.spec (λ c. search needs) (λ c κs. tt) returns (λ c κs. tt) (λ c κs. tt) (λ c κs. tt) returns-2)
+solve-spherical-joint-spec = tie.close (tie.spec (λ c. search needs) (λ c κs. tt) returns (λ c κs. tt) (λ c κs. tt) returns-2)

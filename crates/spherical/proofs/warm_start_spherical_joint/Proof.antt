@@ -1,4 +1,4 @@
--- `warm_start_spherical_joint` equals its definition. Assumes nothing.
+-- `warm_start_spherical_joint` equals its definition: a joint of another case by the fact that it is refused. Assumes nothing.
 use mathlib.Core.Option.{Option·elim}
 use borrow.Author.Needs.{needs}
 use Rattle.records.proofs.Cases.{not-spherical}
@@ -9,9 +9,9 @@ use Rattle.spherical.proofs.warm_start_spherical_joint.Tie as tie
 
 returns : tie.Need-returns
 returns c =
-    let a = c .before .before .args in
-    let other = not-spherical (a .joint .«union_») (c .before .match .keys2) in
-    rw (warm-start-refused (a .joint) (a .state-a) (a .state-b) other) (c .warm-start-refused .ensures)
+    let args = c .before .before .args in
+    let other = not-spherical (args .joint .«union_») (c .before .match .keys2) in
+    rw (warm-start-refused (args .joint) (args .state-a) (args .state-b) other, ← (c .warm-start-refused .ensures))
 
 returns-2 : tie.Need-returns-2
 unfolding warmStartSphericalJoint Option·elim
