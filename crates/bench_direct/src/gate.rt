@@ -41,7 +41,7 @@ pub fn wall_gate(kind: u8) -> Gate {
 }
 
 // The joint with each of its two bodies.
-pub fn checksum(left: Lent) -> u32 {
-    let states = left.states;
-    add_gate(add_gate(0, left.joint, states[0]), left.joint, states[1])
+pub fn checksum(lent: Lent) -> u32 {
+    let states = lent.states;
+    add_gate(add_gate(0, lent.joint, states[0]), lent.joint, states[1])
 }

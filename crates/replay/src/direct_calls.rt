@@ -1,6 +1,6 @@
 // The cases of direct calls on lent memory.
 //
-// The inputs are the joint behind the number of its case, for a solve the context and the switch, then
+// The inputs are the joint after the number of its case, for a solve the context and the switch, then
 // how many states are lent, at most 40, and these. The answer is number, place, the joint and the
 // states. As in stages.rt, what was read is compared with the words that it was read from too.
 use crate::compare::has_words;
@@ -16,10 +16,10 @@ use crate::record_words::CONTEXT_WORDS;
 use crate::record_words::context;
 use crate::record_words::same_context;
 use crate::record_words::words_of_states;
-use crate::words::behind;
 use crate::words::plus;
 use crate::words::switch;
 use crate::words::word;
+use crate::words::words_from;
 use lent_calls::Lent;
 use lent_calls::lend_solve_revolute_joint;
 use lent_calls::lend_solve_spherical_joint;
@@ -61,16 +61,20 @@ fn solve(
     lend_solve_weld_joint(joint, step, states, count, use_bias, 1)
 }
 
-// Whether the words behind the states are the answer: number, place, the joint of the case, and the
+// Whether the words after the states are the answer: number, place, the joint of the case, and the
 // states.
-fn same_left(case: u32, rest: &[u8], count: u32, left: Lent) -> bool {
-    let p = behind(rest, words_of_states(count));
-    let answer = left.answer;
-    let states = left.states;
+fn same_outcome(case: u32, rest: &[u8], count: u32, lent: Lent) -> bool {
+    let p = words_from(rest, words_of_states(count));
+    let answer = lent.answer;
+    let states = lent.states;
     same_word(p, 0, answer.number)
         & same_word(p, 1, answer.place)
-        & same_states(behind(p, plus(2, words_of(case))), states, count as usize)
-        & same_joint(case, behind(p, 2), left.joint)
+        & same_states(
+            words_from(p, plus(2, words_of(case))),
+            states,
+            count as usize,
+        )
+        & same_joint(case, words_from(p, 2), lent.joint)
 }
 
 // Whether a case is as long as its parts: `before` words up to the states, and the answer.
@@ -86,7 +90,7 @@ fn is_whole(p: &[u8], before: usize, joint_words: usize, count: u32) -> bool {
 // Whether the call leaves what the case says.
 fn is_warm_start(kind: u32, p: &[u8], rest: &[u8], count: u32) -> bool {
     let case = word(p, 0);
-    same_left(case, rest, count, warm_start(kind, p, rest, count as usize))
+    same_outcome(case, rest, count, warm_start(kind, p, rest, count as usize))
 }
 
 fn is_solve(
@@ -98,8 +102,8 @@ fn is_solve(
     count: u32,
 ) -> bool {
     let case = word(p, 0);
-    let left = solve(kind, p, step, use_bias, rest, count as usize);
-    same_left(case, rest, count, left)
+    let lent = solve(kind, p, step, use_bias, rest, count as usize);
+    same_outcome(case, rest, count, lent)
 }
 
 fn agrees_warm_start(kind: u32, p: &[u8]) -> bool {
@@ -109,21 +113,21 @@ fn agrees_warm_start(kind: u32, p: &[u8]) -> bool {
     let before = plus(words, 1);
     is_whole(p, before, joint_words, count)
         & is_cased_joint(p)
-        & is_warm_start(kind, p, behind(p, before), count)
+        & is_warm_start(kind, p, words_from(p, before), count)
 }
 
 fn agrees_solve(kind: u32, p: &[u8]) -> bool {
     let joint_words = words_of(word(p, 0));
     let words = plus(1, joint_words);
-    let step = context(behind(p, words));
+    let step = context(words_from(p, words));
     let bias = plus(words, CONTEXT_WORDS);
     let count = word(p, plus(bias, 1));
     let before = plus(bias, 2);
     is_whole(p, before, joint_words, count)
         & is_cased_joint(p)
-        & same_context(behind(p, words), step)
+        & same_context(words_from(p, words), step)
         & is_switch(p, bias)
-        & is_solve(kind, p, step, switch(p, bias), behind(p, before), count)
+        & is_solve(kind, p, step, switch(p, bias), words_from(p, before), count)
 }
 
 // The functions are numbered in fours, a kind each, and the fourth is none.

@@ -8,8 +8,8 @@ use crate::record_words::same_base;
 use crate::revolute_words;
 use crate::spherical_words;
 use crate::weld_words;
-use crate::words::behind;
 use crate::words::word;
+use crate::words::words_from;
 use joint::index::Indices;
 use joint::index::indices_of;
 use records::joint::JointSim;
@@ -52,19 +52,19 @@ fn same_record(case: u32, p: &[u8], union_: JointUnion) -> bool {
 pub fn joint(case: u32, p: &[u8]) -> JointSim {
     JointSim {
         base: base(p),
-        union_: record(case, behind(p, BASE_WORDS)),
+        union_: record(case, words_from(p, BASE_WORDS)),
     }
 }
 
 // The body indices of a joint.
 pub fn indices(case: u32, p: &[u8]) -> Indices {
-    indices_of(record(case, behind(p, BASE_WORDS)))
+    indices_of(record(case, words_from(p, BASE_WORDS)))
 }
 
 // Whether a joint is of this case, and the words are its.
 pub fn same_joint(case: u32, p: &[u8], joint: JointSim) -> bool {
     let union_ = joint.union_;
-    same_record(case, behind(p, BASE_WORDS), union_) & same_base(p, joint.base)
+    same_record(case, words_from(p, BASE_WORDS), union_) & same_base(p, joint.base)
 }
 
 // Whether the words are those of a joint at all, as they are not where a switch is neither 0 nor 1.
@@ -78,13 +78,13 @@ pub fn cased_words(p: &[u8]) -> usize {
 }
 
 pub fn cased_joint(p: &[u8]) -> JointSim {
-    joint(word(p, 0), behind(p, 1))
+    joint(word(p, 0), words_from(p, 1))
 }
 
 pub fn is_cased_joint(p: &[u8]) -> bool {
-    is_joint(word(p, 0), behind(p, 1))
+    is_joint(word(p, 0), words_from(p, 1))
 }
 
 pub fn same_cased_joint(p: &[u8], joint: JointSim) -> bool {
-    same_joint(word(p, 0), behind(p, 1), joint)
+    same_joint(word(p, 0), words_from(p, 1), joint)
 }

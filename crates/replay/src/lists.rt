@@ -12,15 +12,15 @@ use crate::record_words::CONTEXT_WORDS;
 use crate::record_words::STATE_WORDS;
 use crate::record_words::context;
 use crate::record_words::same_context;
-use crate::scene_words::behind_joints;
+use crate::scene_words::after_joints;
 use crate::scene_words::joints_of;
 use crate::scene_words::same_joints;
 use crate::scene_words::same_states;
 use crate::scene_words::states_of;
 use crate::scene_words::words_of_joints;
-use crate::words::behind;
 use crate::words::plus;
 use crate::words::word;
+use crate::words::words_from;
 use call_list::run_list;
 use scene::Run;
 use scene::Scene;
@@ -31,13 +31,13 @@ const HEAD_WORDS: usize = 5 + CONTEXT_WORDS;
 fn scene_of(p: &[u8], joints: usize, states: usize) -> Scene
     requires { ⌜ (joints ≤ 32) × (states ≤ 32) ⌝ }
 {
-    let rest = behind(p, HEAD_WORDS);
+    let rest = words_from(p, HEAD_WORDS);
     Scene {
         joints: joints_of(rest, joints),
-        bodies: states_of(behind_joints(rest, joints), states),
+        bodies: states_of(after_joints(rest, joints), states),
         joint_count: word(p, 0),
         body_count: word(p, 1),
-        context: context(behind(p, 5)),
+        context: context(words_from(p, 5)),
     }
 }
 
@@ -53,9 +53,9 @@ fn same_slots(p: &[u8], joints: usize, scene: Scene) -> bool {
 
 // Whether the words are a scene's, from the context on.
 fn same_scene(p: &[u8], joints: usize, states: usize, scene: Scene) -> bool {
-    let rest = behind(p, CONTEXT_WORDS);
+    let rest = words_from(p, CONTEXT_WORDS);
     same_context(p, scene.context)
-        & same_bodies(behind_joints(rest, joints), states, scene)
+        & same_bodies(after_joints(rest, joints), states, scene)
         & same_slots(rest, joints, scene)
 }
 
@@ -63,7 +63,12 @@ fn same_scene(p: &[u8], joints: usize, states: usize, scene: Scene) -> bool {
 fn is_scene(p: &[u8], joints: usize, states: usize) -> bool
     requires { ⌜ (joints ≤ 32) × (states ≤ 32) ⌝ }
 {
-    same_scene(behind(p, 5), joints, states, scene_of(p, joints, states))
+    same_scene(
+        words_from(p, 5),
+        joints,
+        states,
+        scene_of(p, joints, states),
+    )
 }
 
 // The first n bytes, or all.
@@ -84,7 +89,7 @@ fn same_run(p: &[u8], joints: usize, states: usize, run: Run) -> bool {
     same_answer(p, run.number, run.place, run.still)
         & same_word(p, 3, run.scene.joint_count)
         & same_word(p, 4, run.scene.body_count)
-        & same_scene(behind(p, 5), joints, states, run.scene)
+        & same_scene(words_from(p, 5), joints, states, run.scene)
 }
 
 // Whether the list runs on the scene of the inputs as the answer says.
@@ -103,11 +108,11 @@ fn runs_to(p: &[u8], joints: usize, states: usize, list: &[u8], answer: &[u8]) -
 fn agrees_run(p: &[u8], joints: usize, states: usize, bytes: usize) -> bool
     requires { ⌜ (joints ≤ 32) × (states ≤ 32) ⌝ }
 {
-    let before = behind(p, HEAD_WORDS);
+    let before = words_from(p, HEAD_WORDS);
     let words = plus(words_of_joints(before, joints), states * STATE_WORDS);
-    let list = behind(before, words);
+    let list = words_from(before, words);
     let list_words = bytes / 4 + (bytes % 4 + 3) / 4;
-    let answer = behind(list, list_words);
+    let answer = words_from(list, list_words);
     has_words(
         p,
         plus(plus(2 * HEAD_WORDS, plus(words, words)), list_words),

@@ -56,7 +56,7 @@ fn ended(s: State, is_broken: bool) -> State {
 }
 
 // Moves the bytes from `from` up to `end` to the start of the buffer, for the rest of their case to
-// be read behind them.
+// be read after them.
 fn keep(buf: &mut [u8], from: usize, end: usize)
     requires { ⌜ end ≤ length (now buf) ⌝ }
 {
@@ -98,7 +98,7 @@ fn run_block(buf: &mut [u8], s: State, end: usize) -> State
     t
 }
 
-// Reads once, behind the bytes that were kept, and runs what is there.
+// Reads once, after the bytes that were kept, and runs what is there.
 fn turn(buf: &mut [u8], fd: i32, s: State) -> State {
     let kept = s.kept;
     if kept >= buf.len() {

@@ -1,5 +1,5 @@
-// The joints and states of a scene: as many as a case gives, one behind the other, the joints each
-// behind the number of its case. The places behind them are not in use.
+// The joints and states of a scene: as many as a case gives, one after the other, the joints each
+// after the number of its case. The places after them are not in use.
 ghost use Prim.Native.Nat.{_≤_};
 use crate::joint_words::OTHER;
 use crate::joint_words::cased_joint;
@@ -10,16 +10,16 @@ use crate::record_words::STATE_WORDS;
 use crate::record_words::context;
 use crate::record_words::same_state;
 use crate::record_words::state;
-use crate::words::behind;
 use crate::words::plus;
+use crate::words::words_from;
 use records::body::BodyState;
 use records::body::IDENTITY_BODY_STATE;
 use records::joint::JointSim;
 use scene::empty_scene;
 
-// The index behind the joint that begins at i.
-fn behind_joint(p: &[u8], i: usize) -> usize {
-    plus(i, cased_words(behind(p, i)))
+// The index after the joint that begins at i.
+fn after_joint(p: &[u8], i: usize) -> usize {
+    plus(i, cased_words(words_from(p, i)))
 }
 
 // How many words the first `count` joints of some words have.
@@ -27,20 +27,20 @@ pub fn words_of_joints(p: &[u8], count: usize) -> usize {
     let mut words = 0usize;
     let mut k = 0usize;
     while k < count {
-        words = behind_joint(p, words);
+        words = after_joint(p, words);
         k += 1;
     }
     words
 }
 
-// The words behind the first `count` joints.
-pub fn behind_joints(p: &[u8], count: usize) -> &[u8] {
-    behind(p, words_of_joints(p, count))
+// The words after the first `count` joints.
+pub fn after_joints(p: &[u8], count: usize) -> &[u8] {
+    words_from(p, words_of_joints(p, count))
 }
 
 // Joint k of some words.
 fn joint_at(p: &[u8], k: usize) -> JointSim {
-    cased_joint(behind_joints(p, k))
+    cased_joint(after_joints(p, k))
 }
 
 // The joints of a scene that has none in use, whatever its context.
@@ -68,7 +68,7 @@ pub fn states_of(p: &[u8], count: usize) -> [BodyState; 32]
     let mut states = [IDENTITY_BODY_STATE; 32];
     let mut k = 0usize;
     while k < count {
-        states[k] = state(behind(p, k * STATE_WORDS));
+        states[k] = state(words_from(p, k * STATE_WORDS));
         k += 1;
     }
     states
@@ -109,7 +109,7 @@ pub fn same_joints(p: &[u8], joints: [JointSim; 32], count: usize) -> bool {
     let mut same = true;
     let mut k = 0usize;
     while k < 32 {
-        same = same & same_joint_place(k < count, behind_joints(p, k), joints[k]);
+        same = same & same_joint_place(k < count, after_joints(p, k), joints[k]);
         k += 1;
     }
     same
@@ -119,7 +119,7 @@ pub fn same_states(p: &[u8], states: [BodyState; 32], count: usize) -> bool {
     let mut same = true;
     let mut k = 0usize;
     while k < 32 {
-        same = same & same_state_place(k < count, behind(p, k * STATE_WORDS), states[k]);
+        same = same & same_state_place(k < count, words_from(p, k * STATE_WORDS), states[k]);
         k += 1;
     }
     same

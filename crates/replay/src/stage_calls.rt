@@ -6,8 +6,8 @@ use crate::record_words::BODY_WORDS;
 use crate::record_words::CONTEXT_WORDS;
 use crate::record_words::body;
 use crate::record_words::context;
-use crate::words::behind;
 use crate::words::plus;
+use crate::words::words_from;
 use constraint::answer::Prepared;
 use constraint::answer::Solved;
 use constraint::answer::WarmStarted;
@@ -24,15 +24,15 @@ use weld::prepare_weld_joint;
 use weld::solve_weld_joint;
 use weld::warm_start_weld_joint;
 
-// The body that stands i words behind the joint.
+// The body that stands i words after the joint.
 fn body_at(case: u32, p: &[u8], i: usize) -> BodyRecord {
-    body(behind(p, plus(words_of(case), i)))
+    body(words_from(p, plus(words_of(case), i)))
 }
 
 // Prepare takes the joint, the context and the two bodies.
 pub fn prepare(kind: u32, case: u32, p: &[u8]) -> Prepared {
     let joint = joint(case, p);
-    let step = context(behind(p, words_of(case)));
+    let step = context(words_from(p, words_of(case)));
     let body_a = body_at(case, p, CONTEXT_WORDS);
     let body_b = body_at(case, p, CONTEXT_WORDS + BODY_WORDS);
     if kind == 0 {

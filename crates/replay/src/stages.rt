@@ -18,10 +18,10 @@ use crate::record_words::words_of_states;
 use crate::stage_calls::prepare;
 use crate::stage_calls::solve;
 use crate::stage_calls::warm_start;
-use crate::words::behind;
 use crate::words::plus;
 use crate::words::switch;
 use crate::words::word;
+use crate::words::words_from;
 use constraint::velocity::Velocities;
 use joint::index::Indices;
 use joint::index::bad_index;
@@ -59,7 +59,7 @@ fn parts_of(kind: u32, p: &[u8], i: usize) -> Parts {
 
 // State k of those whose words begin at i.
 fn state_at(p: &[u8], i: usize, k: u32) -> BodyState {
-    state(behind(p, plus(i, words_of_states(k))))
+    state(words_from(p, plus(i, words_of_states(k))))
 }
 
 // The state of an index, among those whose words begin at i.
@@ -89,7 +89,7 @@ fn stored(at: Indices, pair: StatePair, v: Velocities) -> StatePair {
 // Whether the answer has state k as the stage left it: as it was in the inputs, unless it is that of
 // one of the bodies.
 fn same_state_of(p: &[u8], parts: Parts, k: u8, at: Indices, pair: StatePair) -> bool {
-    let after = behind(p, plus(parts.states_after, words_of_states(k as u32)));
+    let after = words_from(p, plus(parts.states_after, words_of_states(k as u32)));
     if at.b == k as i32 {
         return same_state(after, pair.state_b);
     }
@@ -122,11 +122,11 @@ fn is_prepare(kind: u32, p: &[u8], answer: &[u8]) -> bool {
 fn agrees_prepare(kind: u32, p: &[u8]) -> bool {
     let words = words_of(kind);
     let answer = words + CONTEXT_WORDS + 2 * BODY_WORDS;
-    let step = behind(p, words);
+    let step = words_from(p, words);
     has_words(p, plus(answer, words))
         & is_joint(kind, p)
         & same_context(step, context(step))
-        & is_prepare(kind, p, behind(p, answer))
+        & is_prepare(kind, p, words_from(p, answer))
 }
 
 // Whether the answer has what a stage left: the states with its velocities stored, and the joint.
@@ -140,7 +140,7 @@ fn same_left(
     joint: JointSim,
 ) -> bool {
     same_states(p, parts, at, stored(at, pair, v))
-        & same_joint(kind, behind(p, parts.joint_after), joint)
+        & same_joint(kind, words_from(p, parts.joint_after), joint)
 }
 
 fn is_warm_start(kind: u32, p: &[u8], parts: Parts, at: Indices) -> bool {
@@ -171,12 +171,12 @@ fn is_solve(
 fn agrees_solve(kind: u32, p: &[u8]) -> bool {
     let words = words_of(kind);
     let bias = words + CONTEXT_WORDS;
-    let step = context(behind(p, words));
+    let step = context(words_from(p, words));
     let parts = parts_of(kind, p, bias + 1);
     let at = indices(kind, p);
     is_whole(p, parts, at)
         & is_joint(kind, p)
-        & same_context(behind(p, words), step)
+        & same_context(words_from(p, words), step)
         & is_switch(p, bias)
         & is_solve(kind, p, step, switch(p, bias), parts, at)
 }

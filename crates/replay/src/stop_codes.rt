@@ -1,12 +1,12 @@
-// The cases of the stop code. The inputs are a joint behind the number of its case, the answer is
+// The cases of the stop code. The inputs are a joint after the number of its case, the answer is
 // number, place and code.
 use crate::compare::has_words;
 use crate::compare::same_word;
 use crate::joint_words::cased_joint;
 use crate::joint_words::cased_words;
 use crate::joint_words::is_cased_joint;
-use crate::words::behind;
 use crate::words::plus;
+use crate::words::words_from;
 use joint::stop_code::StopCode;
 use joint::stop_code::stop_code;
 
@@ -20,5 +20,5 @@ pub fn agrees(f: u32, p: &[u8]) -> bool {
     (f == 0xb0)
         & has_words(p, plus(words, 3))
         & is_cased_joint(p)
-        & same_code(behind(p, words), stop_code(cased_joint(p)))
+        & same_code(words_from(p, words), stop_code(cased_joint(p)))
 }

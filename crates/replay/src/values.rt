@@ -1,6 +1,6 @@
 // The cases of the stages by value, on a joint of any case.
 //
-// The inputs are the joint behind the number of its case; for prepare the context and two bodies, for
+// The inputs are the joint after the number of its case; for prepare the context and two bodies, for
 // a warm start two states, for a solve the context, the switch and two states. The answer is number,
 // place, the joint, and but for prepare the velocities. As in stages.rt, what was read is compared
 // with the words that it was read from too.
@@ -20,10 +20,10 @@ use crate::record_words::state;
 use crate::stage_calls::prepare;
 use crate::stage_calls::solve;
 use crate::stage_calls::warm_start;
-use crate::words::behind;
 use crate::words::plus;
 use crate::words::switch;
 use crate::words::word;
+use crate::words::words_from;
 use constraint::velocity::Velocities;
 use joint::store::StatePair;
 use solver::StepContext;
@@ -46,7 +46,7 @@ fn same_velocities(p: &[u8], v: Velocities) -> bool {
 fn pair_at(p: &[u8]) -> StatePair {
     StatePair {
         state_a: state(p),
-        state_b: state(behind(p, STATE_WORDS)),
+        state_b: state(words_from(p, STATE_WORDS)),
     }
 }
 
@@ -54,14 +54,14 @@ fn pair_at(p: &[u8]) -> StatePair {
 // of the answer follow.
 fn is_prepare(kind: u32, case: u32, p: &[u8], answer: &[u8]) -> bool {
     let r = prepare(kind, case, p);
-    same_numbers(answer, r.number, r.place) & same_joint(case, behind(answer, 2), r.joint)
+    same_numbers(answer, r.number, r.place) & same_joint(case, words_from(answer, 2), r.joint)
 }
 
 fn is_warm_start(kind: u32, case: u32, p: &[u8], states: &[u8], answer: &[u8]) -> bool {
     let r = warm_start(kind, case, p, pair_at(states));
     same_numbers(answer, r.number, r.place)
-        & same_velocities(behind(answer, plus(2, words_of(case))), r.velocities)
-        & same_joint(case, behind(answer, 2), r.joint)
+        & same_velocities(words_from(answer, plus(2, words_of(case))), r.velocities)
+        & same_joint(case, words_from(answer, 2), r.joint)
 }
 
 fn is_solve(
@@ -75,18 +75,18 @@ fn is_solve(
 ) -> bool {
     let r = solve(kind, case, p, step, use_bias, pair_at(states));
     same_numbers(answer, r.number, r.place)
-        & same_velocities(behind(answer, plus(2, words_of(case))), r.velocities)
-        & same_joint(case, behind(answer, 2), r.joint)
+        & same_velocities(words_from(answer, plus(2, words_of(case))), r.velocities)
+        & same_joint(case, words_from(answer, 2), r.joint)
 }
 
 fn agrees_prepare(kind: u32, case: u32, p: &[u8]) -> bool {
     let words = words_of(case);
-    let step = behind(p, plus(1, words));
+    let step = words_from(p, plus(1, words));
     let answer = 1 + words + CONTEXT_WORDS + 2 * BODY_WORDS;
     has_words(p, plus(answer, 2 + words))
         & is_cased_joint(p)
         & same_context(step, context(step))
-        & is_prepare(kind, case, behind(p, 1), behind(p, answer))
+        & is_prepare(kind, case, words_from(p, 1), words_from(p, answer))
 }
 
 fn agrees_warm_start(kind: u32, case: u32, p: &[u8]) -> bool {
@@ -98,29 +98,29 @@ fn agrees_warm_start(kind: u32, case: u32, p: &[u8]) -> bool {
         & is_warm_start(
             kind,
             case,
-            behind(p, 1),
-            behind(p, states),
-            behind(p, answer),
+            words_from(p, 1),
+            words_from(p, states),
+            words_from(p, answer),
         )
 }
 
 fn agrees_solve(kind: u32, case: u32, p: &[u8]) -> bool {
     let words = words_of(case);
-    let step = context(behind(p, plus(1, words)));
+    let step = context(words_from(p, plus(1, words)));
     let bias = 1 + words + CONTEXT_WORDS;
     let answer = bias + 1 + 2 * STATE_WORDS;
     has_words(p, plus(answer, 2 + words + VELOCITY_WORDS))
         & is_cased_joint(p)
-        & same_context(behind(p, plus(1, words)), step)
+        & same_context(words_from(p, plus(1, words)), step)
         & is_switch(p, bias)
         & is_solve(
             kind,
             case,
-            behind(p, 1),
+            words_from(p, 1),
             step,
             switch(p, bias),
-            behind(p, bias + 1),
-            behind(p, answer),
+            words_from(p, bias + 1),
+            words_from(p, answer),
         )
 }
 

@@ -41,7 +41,7 @@ pub fn word(p: &[u8], i: usize) -> u32
 }
 
 // The words from index i on.
-pub fn behind(p: &[u8], i: usize) -> &[u8]
+pub fn words_from(p: &[u8], i: usize) -> &[u8]
     ensures { λ r. ⌜ length (now r) ≡ length (now (p .entry)) - i * 4 ⌝ }
 {
     if i <= p.len() / 4 {
@@ -52,7 +52,7 @@ pub fn behind(p: &[u8], i: usize) -> &[u8]
     &p[end..]
 }
 
-// The index k words behind i. It wraps where no case reaches, so that nothing is asked of i.
+// The index k words past i. It wraps where no case reaches, so that nothing is asked of i.
 pub fn plus(i: usize, k: usize) -> usize
     ensures { λ r. ⌜ r ≡ (i + k) % 2 ^ 64 ⌝ }
 {

@@ -11,4 +11,8 @@ abbrev μ-loop : tie.MeasureT-loop
 μ-loop p count joints₀ k₀ joints k = count - k
 
 pub joints-of-spec : {M : Type 1} → statement M
-joints-of-spec = tie.close (tie.spec Inv-loop μ-loop (λ c κs. tt) (λ c. search needs) (λ c κs. tt) (λ c. search needs) (λ c. search needs) (λ c. search needs) (λ c. search needs) (λ c. search needs) (λ c. tt))
+joints-of-spec =
+    tie.close
+    (tie.spec
+    Inv-loop μ-loop (λ c κs. tt) (λ c. search needs) (λ c κs. tt) (λ c. search needs) (λ c. search needs) (λ c. search needs) (λ c. search needs)
+    (λ c. search needs) (λ c. tt))

@@ -13,8 +13,8 @@ abbrev μ-loop : tie.MeasureT-loop
 loop-holds : tie.Need-loop-holds Inv-loop μ-loop
 loop-holds c = search needs
 
-behind-joint-requires : tie.Need-behind-joint-requires Inv-loop μ-loop
-behind-joint-requires c κs = tt
+after-joint-requires : tie.Need-after-joint-requires Inv-loop μ-loop
+after-joint-requires c κs = tt
 
 add-k : tie.Need-add-k Inv-loop μ-loop
 add-k c = search needs
@@ -35,7 +35,7 @@ words-of-joints-spec =
     Inv-loop
     μ-loop
     loop-holds
-    behind-joint-requires
+    after-joint-requires
     add-k
     loop-less
     loop-again
