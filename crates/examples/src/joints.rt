@@ -26,6 +26,7 @@ use records::joint::DEFAULT_WELD_JOINT;
 use records::joint::JointSim;
 use records::joint::JointType;
 use records::joint::JointUnion;
+use records::joint::joint_sim;
 use revolute::prepare_revolute_joint;
 use revolute::solve_revolute_joint;
 use weld::prepare_weld_joint;
@@ -33,10 +34,10 @@ use weld::solve_weld_joint;
 use weld::warm_start_weld_joint;
 
 fn weld_sim() -> JointSim {
-    JointSim {
-        base: joint_base(JointType::Weld),
-        union_: JointUnion::Weld(DEFAULT_WELD_JOINT),
-    }
+    joint_sim(
+        joint_base(JointType::Weld),
+        JointUnion::Weld(DEFAULT_WELD_JOINT),
+    )
 }
 
 fn prepared_weld(body_a: BodyRecord, body_b: BodyRecord) -> JointSim {
@@ -95,10 +96,8 @@ fn has_motor_impulse(sim: JointSim, bits: u32) -> bool {
 }
 
 fn motor_sim() -> JointSim {
-    JointSim {
-        base: joint_base(JointType::Revolute),
-        union_: JointUnion::Revolute(revolute_joint(2.0, 4.0)),
-    }
+    let motor = revolute_joint(2.0, 4.0);
+    joint_sim(joint_base(JointType::Revolute), JointUnion::Revolute(motor))
 }
 
 fn prepared_motor() -> JointSim {
@@ -122,11 +121,7 @@ fn with_linear_impulse(sim: JointSim) -> JointSim {
         return sim;
     };
     j.linear_impulse.x = 1.0;
-    let base = sim.base;
-    JointSim {
-        base,
-        union_: JointUnion::Weld(j),
-    }
+    joint_sim(sim.base, JointUnion::Weld(j))
 }
 
 fn pushed_weld(body: BodyRecord) -> JointSim {

@@ -13,6 +13,7 @@ use records::joint::JointSim;
 use records::joint::JointType;
 use records::joint::JointUnion;
 use records::joint::RevoluteJoint;
+use records::joint::joint_sim;
 
 // The hinge, with impulses that a step before has left.
 fn hinge() -> RevoluteJoint
@@ -43,10 +44,8 @@ fn hinge() -> RevoluteJoint
 fn hinge_joint(leaf: u8) -> JointSim
     ensures { λ r. ⌜ r ≡ D.hingeJoint leaf ⌝ }
 {
-    JointSim {
-        base: joint_base(JointType::Revolute, 0, POST, leaf),
-        union_: JointUnion::Revolute(hinge()),
-    }
+    let base = joint_base(JointType::Revolute, 0, POST, leaf);
+    joint_sim(base, JointUnion::Revolute(hinge()))
 }
 
 // The post stands fast, and the leaf is at an index of the awake set.

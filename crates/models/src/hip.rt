@@ -14,6 +14,7 @@ use records::joint::JointSim;
 use records::joint::JointType;
 use records::joint::JointUnion;
 use records::joint::SphericalJoint;
+use records::joint::joint_sim;
 
 const MOTOR_IMPULSE: Vec3 = Vec3 {
     x: 0.01,
@@ -70,10 +71,8 @@ fn socket() -> SphericalJoint
 fn socket_joint(pelvis: u8, thigh: u8) -> JointSim
     ensures { λ r. ⌜ r ≡ D.socketJoint pelvis thigh ⌝ }
 {
-    JointSim {
-        base: joint_base(JointType::Spherical, 1, pelvis, thigh),
-        union_: JointUnion::Spherical(socket()),
-    }
+    let base = joint_base(JointType::Spherical, 1, pelvis, thigh);
+    joint_sim(base, JointUnion::Spherical(socket()))
 }
 
 // The pelvis and the thigh are at indices of the awake set.

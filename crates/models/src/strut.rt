@@ -13,6 +13,7 @@ use records::joint::JointSim;
 use records::joint::JointType;
 use records::joint::JointUnion;
 use records::joint::WeldJoint;
+use records::joint::joint_sim;
 
 // The weld, with impulses that a step before has left.
 fn weld_record() -> WeldJoint
@@ -33,10 +34,8 @@ fn weld_record() -> WeldJoint
 fn weld_joint(strut: u8) -> JointSim
     ensures { λ r. ⌜ r ≡ D.weldJoint strut ⌝ }
 {
-    JointSim {
-        base: joint_base(JointType::Weld, 2, POST, strut),
-        union_: JointUnion::Weld(weld_record()),
-    }
+    let base = joint_base(JointType::Weld, 2, POST, strut);
+    joint_sim(base, JointUnion::Weld(weld_record()))
 }
 
 // The pier stands fast, and the strut is at an index of the awake set.

@@ -1,4 +1,6 @@
 // Joint records: the three kinds, the union of them, and the part that all kinds share.
+ghost use mathlib.Core.Path.{_≡_};
+ghost use Rattle.records.specs.Joint as D;
 use crate::NULL_INDEX;
 use math_functions::types::MAT3_ZERO;
 use math_functions::types::Matrix3;
@@ -263,3 +265,10 @@ pub const UNUSED_JOINT: JointSim = JointSim {
     base: DEFAULT_JOINT_BASE,
     union_: JointUnion::Other,
 };
+
+// A joint of the two parts. (The stages of the kinds, which are timed, put theirs together themselves.)
+pub fn joint_sim(base: JointBase, union_: JointUnion) -> JointSim
+    ensures { λ r. ⌜ r ≡ D.jointSim base «union_» ⌝ }
+{
+    JointSim { base, union_ }
+}

@@ -14,6 +14,7 @@ use joint::index::Indices;
 use joint::index::indices_of;
 use records::joint::JointSim;
 use records::joint::JointUnion;
+use records::joint::joint_sim;
 
 // The number of the empty case.
 pub const OTHER: u32 = 3;
@@ -50,10 +51,7 @@ fn same_record(case: u32, p: &[u8], union_: JointUnion) -> bool {
 }
 
 pub fn joint(case: u32, p: &[u8]) -> JointSim {
-    JointSim {
-        base: base(p),
-        union_: record(case, words_from(p, BASE_WORDS)),
-    }
+    joint_sim(base(p), record(case, words_from(p, BASE_WORDS)))
 }
 
 // The body indices of a joint.
