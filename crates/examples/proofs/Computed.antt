@@ -36,10 +36,12 @@ unfolding Option·elim Ieee.ofBits Ieee.neg Ieee.add Ieee.sub Ieee.mul Ieee.div 
     Angular.isWorked Angular.lowerLimitRow Angular.upperLimitRow Angular.angularRow Angular.twistLimitRows
     Point.pointBias Point.pointMass Point.pointCdot Point.pointCdotGrouped
     Prepare.prepareBase Prepare.awakeIndex Prepare.prepareFrame Prepare.axialMass
-    R.springRow R.motorSum R.motorRow R.perpAxis R.perpBias R.perpMass R.softImpulse2Products R.perpAngularImpulse R.collinearRow R.perpRow R.pointRow R.jointRotation
+    R.springRow R.motorSum R.motorRow R.perpAxis R.perpBias R.perpMass R.softImpulse2Products R.perpAngularImpulse R.collinearRow R.perpRow R.pointRow
+    R.jointRotation
     R.solveSpring R.solveMotor R.solveLimits R.solvePerp R.solvePoint R.solveRevolute R.warmAngularImpulse R.warmStartRevolute R.keepImpulses R.prepareRevolute
     R.prepareRevoluteJoint R.warmStartRevoluteJoint R.solveRevoluteJoint
-    S.springRow S.motorSum S.limitLength S.motorRow S.coneRow S.pointRow S.jointRotation S.solveSpring S.solveMotor S.solveLimits S.solveCone S.solveBias S.solvePoint
+    S.springRow S.motorSum S.limitLength S.motorRow S.coneRow S.pointRow S.jointRotation S.solveSpring S.solveMotor S.solveLimits S.solveCone S.solveBias
+    S.solvePoint
     S.prepareSwing S.twistJacobian S.prepareTwist S.prepareRotationMass S.keepImpulses
     S.prepareSpherical S.warmStartSpherical S.solveSpherical S.prepareSphericalJoint S.warmStartSphericalJoint S.solveSphericalJoint
     W.rowSpring W.keepImpulses W.prepareWeld W.warmStartWeld W.isSoft W.angularBias W.weldAngularRow W.pointRow W.jointRotation W.solveAngular W.solveBias

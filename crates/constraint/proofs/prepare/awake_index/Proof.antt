@@ -21,7 +21,11 @@ returns : tie.Need-returns
 unfolding awakeIndex
 returns c =
     let body = c .before .before .before .before .args .body in
-    rw (toZ-ofZ {w = w32} {z = body .«local_index»} (record { sfits = c .struct-told2 .given .1 .0 .1 }), awake (body .«set_index») (record { sfits = c .before .before .struct-told .given .0 .1 }) (c .before .if1 .taken))
+    rw (
+      toZ-ofZ {w = w32} {z = body .«local_index»} (record { sfits = c .struct-told2 .given .1 .0 .1 }),
+      awake (body .«set_index»)
+          (record { sfits = c .before .before .struct-told .given .0 .1 }) (c .before .if1 .taken),
+    )
 
 returns-2 : tie.Need-returns-2
 unfolding awakeIndex
