@@ -51,7 +51,7 @@ angularRow s mass oldImpulse m v =
     let impulse = softImpulse3 s (mulMv mass (add cdot (s .bias))) oldImpulse in
     row3 (add oldImpulse impulse) (applyAngular m impulse v)
 
--- a limit about an axis, with a lower and an upper angle: what its two rows are worked with. `angle` is the twist angle of the start
+-- a limit about an axis, with a lower and an upper angle: what its two rows are worked with. `angle` is the twist angle at the solve's start
 pub record TwistLimit : Type 0 where
   pub angle : Float
   pub «lower_angle» : Float

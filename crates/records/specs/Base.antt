@@ -1,4 +1,4 @@
--- The part of a joint that all kinds share, in two parts: the settings, and what prepare makes. Its fields are spelled out here and nowhere else.
+-- The part of a joint that all kinds share, in two parts: the settings, and what prepare makes. Other definitions give its parts, and `built` the whole.
 -- Definitions only. Assumes nothing.
 use mathlib.Core.Bool.{Bool, false}
 use lib.Ieee.{Float}
@@ -79,7 +79,7 @@ withMade base made = built (settingsOf base) made
 
 -- ---- the Rust's default of JointSim, all but the union
 
--- the settings of a joint of a type, with these ids and frames, and all else as the default has it
+-- the settings of a joint of a type, with these ids, frames and constraint softness, and all else as the default has it
 abbrev pub settingsWith : ℤ → ℤ → ℤ → JointType → Transform → Transform → Softness → Settings
 settingsWith jointId bodyIdA bodyIdB type frameA frameB softness =
     record {

@@ -63,7 +63,7 @@ isOther Other = true
 abbrev pub jointSim : JointBase → JointUnion → JointSim
 jointSim base union = record { base = base; «union_» = union }
 
--- the joint once a warm start or a solve has left this record of its kind: all else stays as it was
+-- the joint once a solve has left this record of its kind: all else stays as it was. (A warm start leaves the joint whole.)
 abbrev pub afterStage : JointSim → JointUnion → JointSim
 afterStage joint union = jointSim (joint .base) union
 

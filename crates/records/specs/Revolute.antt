@@ -1,5 +1,5 @@
--- The record of a revolute joint in four parts: what a solve writes, the settings, the two indices, and what prepare makes. Its fields are spelled out
--- here and nowhere else. Definitions only. Assumes nothing.
+-- The record of a revolute joint in four parts: what a solve writes, the settings, the two indices, and what prepare makes. Other
+-- definitions give its parts, and `built` the whole. Definitions only. Assumes nothing.
 use mathlib.Core.Bool.{Bool, false}
 use lib.Ieee.{Float}
 use lib.IntN.{ℤ}
@@ -37,7 +37,7 @@ pub record Settings : Type 0 where
   pub «enable_motor» : Bool
   pub «enable_limit» : Bool
 
--- what prepare makes, but for the indices, and `delta_angle`, which no stage writes
+-- what prepare makes, but for the indices; and also `delta_angle`, which no stage writes
 pub record Made : Type 0 where
   pub «frame_a» : Transform
   pub «frame_b» : Transform

@@ -1,5 +1,5 @@
--- The record of a spherical joint in four parts: what a solve writes, the settings, the two indices, and what prepare makes. Its fields are spelled out
--- here and nowhere else. Definitions only. Assumes nothing.
+-- The record of a spherical joint in four parts: what a solve writes, the settings, the two indices, and what prepare makes. Other
+-- definitions give its parts, and `built` the whole. Definitions only. Assumes nothing.
 use mathlib.Core.Bool.{Bool, false}
 use lib.Ieee.{Float}
 use lib.IntN.{ℤ}

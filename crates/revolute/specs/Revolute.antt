@@ -94,7 +94,7 @@ keepImpulses j enableWarmStarting =
 abbrev pub revolutePrepared : JointBase → RevoluteJoint → RevolutePrepared
 revolutePrepared base joint = record { base = base; joint = joint }
 
--- document 01's prepare, where deltaCenter is the difference of the centres. The rotation axis is the z-axis of body A; delta_angle stays
+-- document 01's prepare, where deltaCenter is the difference of the centres. The rotation axis is the z-axis of frame A; delta_angle stays
 unfoldable pub prepareRevolute : JointBase → RevoluteJoint → Float → Bool → Vec3 → BodyRecord → BodyRecord → RevolutePrepared
 prepareRevolute base j h enableWarmStarting deltaCenter bodyA bodyB =
     let invInertiaSum = addMm (bodyA .«inv_inertia_world») (bodyB .«inv_inertia_world») in

@@ -96,7 +96,7 @@ keepImpulses j enableWarmStarting = cond (not enableWarmStarting) (withImpulses 
 abbrev pub sphericalPrepared : JointBase → SphericalJoint → SphericalPrepared
 sphericalPrepared base joint = record { base = base; joint = joint }
 
--- document 01's prepare. The cone axis is the z-axis of frame A, the twist axis that of frame B
+-- document 01's prepare, where deltaCenter is the difference of the centres. The cone axis is the z-axis of frame A, the twist axis that of frame B
 unfoldable pub prepareSpherical : JointBase → SphericalJoint → Float → Bool → Vec3 → BodyRecord → BodyRecord → SphericalPrepared
 prepareSpherical base j h enableWarmStarting deltaCenter bodyA bodyB =
     let next = prepareBase base bodyA bodyB in

@@ -45,7 +45,7 @@ withImpulses j linearImpulse angularImpulse = withWritten j (record { «linear_i
 
 -- ==== Prepare
 
--- document 01's prepare: weld takes the joint's own softness where a hertz is 0.0, which -0.0 equals
+-- document 01's prepare: weld takes the joint's own softness (constraint_softness) where a hertz is 0.0, which -0.0 equals
 unfoldable pub rowSpring : Float → Float → Float → Softness → Softness
 rowSpring hertz dampingRatio h constraintSoftness = cond (eq hertz zero) constraintSoftness (makeSoft hertz dampingRatio h)
 
