@@ -30,7 +30,7 @@ stageCode slot (Spherical j) stage = codeIn slot (cond (eqb stage 0) 1 4)
 stageCode slot (Weld j) stage = codeIn slot (cond (eqb stage 0) 2 5)
 stageCode slot Other stage = 6
 
--- a position among 32 joints
+-- a slot's position among 32 joints: 0 for one past them, whose calls work no joint
 unfoldable pub jointPosition : ℕ → ℕ
 jointPosition slot = cond (ltb slot 32) slot 0
 

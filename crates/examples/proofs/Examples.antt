@@ -5,7 +5,7 @@ use lib.Dec.{T}
 use lib.Ieee.Fits.{and-l, and-r}
 use Rattle.scene.specs.Calls.{Every}
 use Rattle.direct.specs.Direct as Direct
-use Rattle.examples.specs.Examples.{Example, Holds, example13, example14, example15, example16, table}
+use Rattle.examples.specs.Examples.{Example, Holds, example13, example14, example15, example16, table, Sixteen}
 use Rattle.examples.proofs.Same.{sameFloats, same-floats}
 use Rattle.examples.proofs.Computed.{computed}
 
@@ -21,6 +21,6 @@ all-hold (e ∷ es) h =
     (same-floats (e .gives) (e .must) (and-l same (allSame es) h), all-hold es (and-r same (allSame es) h))
 
 -- the theorem of the sixteen: the checker computes the test
-pub sixteen : Every Holds table
+pub sixteen : Sixteen
 unfolding table example13 example14 example15 example16 computed Direct.cause Direct.directCall
 sixteen = all-hold table tt

@@ -163,20 +163,20 @@ pub record Shown : Type 0 where
   -- 'a list is worked up to its mistake': no joint stands in slot 5
   pub refused : (plainRun (chain 0x1000) (0 ∷ 2 ∷ 5 ∷ 2 ∷ []) .number ≡ 4) × (plainRun (chain 0x1000) (0 ∷ 2 ∷ 5 ∷ 2 ∷ []) .place ≡ 1)
   pub not-begun : xOf (plainRun (chain 0x1000) (0 ∷ 2 ∷ 5 ∷ 2 ∷ [])) 0 ≡ four
-  -- 'where it answers 0, every speed is a number': a block whose speed is no number hands that on to the block that it is welded to
+  -- 'where it answers 0, every speed is a number that can be shown': a block whose speed is no number hands that on to the block that it is welded to
   pub nan-accepted : plainRun (blocks (moving nan) (moving two)) solve .number ≡ 0
   pub nan-speeds : (xOf (plainRun (blocks (moving nan) (moving two)) solve) 0 ≡ nan) × (xOf (plainRun (blocks (moving nan) (moving two)) solve) 1 ≡ nan)
-  -- 'every part that a listed joint names moves', 'nothing happened': blocks that are not dynamic keep their speeds, and the impulse is stored
+  -- 'every part that a listed joint holds changes its speed', 'still means that nothing happened': blocks that are not dynamic keep their speeds, and the impulse is stored
   pub still-pushed : plainRun (blocks (kept zero) (kept two)) solve .still ≡ true
   pub kept-speeds : (xOf (plainRun (blocks (kept zero) (kept two)) solve) 0 ≡ zero) × (xOf (plainRun (blocks (kept zero) (kept two)) solve) 1 ≡ two)
   pub stored-impulse : impulseX (plainRun (blocks (kept zero) (kept two)) solve) ≡ neg one
-  -- 'a part that no listed joint names stands still'
+  -- 'a part that no listed joint holds stands still'
   pub flies-on : xOf (plainRun (chain 0x1000) solve) 2 ≡ eight
   -- 'still means that nothing moves', 'a list that changes nothing was refused'
   pub still-flying : (plainRun (blocks (moving two) (moving two)) [] .still ≡ true) × (plainRun (blocks (moving two) (moving two)) [] .number ≡ 0)
   -- 'the empty list is always still'
   pub empty-not-still : plainRun (blocks (moving nan) (moving two)) [] .still ≡ false
-  -- 'the same parts and joints give the same figures': half the step, half the turn
+  -- 'the same parts, joints and list give the same figures': half the step, half the turn
   pub long-step : turnOf (plainRun (driven halfSecond) solve) ≡ one
   pub short-step : turnOf (plainRun (driven (contextWith quarter four true)) solve) ≡ half
   -- 'a joint that comes back unchanged was refused': blocks at rest

@@ -1,4 +1,4 @@
--- Document 01's sixteen examples: a table of what the definitions give beside what they must give. Definitions only. Assumes nothing.
+-- Document 01's sixteen examples: a table of what the definitions give beside what they must give. Definitions, and the statement about them. Assumes nothing.
 use mathlib.Core.Path.{_≡_}
 use mathlib.Core.Bool.{false}
 use mathlib.Core.List.{List, [], _∷_}
@@ -20,6 +20,7 @@ use Rattle.records.specs.declared.body.BodyState.{BodyState}
 use Rattle.records.specs.Joint.{jointSim}
 use Rattle.weld.specs.Weld as W
 use Rattle.scene.specs.Scene.{stateAt}
+use Rattle.scene.specs.Calls.{Every}
 use Rattle.scene.specs.Chain.{four}
 use Rattle.direct.specs.Direct.{revolute, weld, warmStart, solve, Outcome, directCall}
 use Rattle.examples.specs.Joints.{half, step, motorJoint, free0, free1, fixed, preparedWeld, preparedHinge, moving, linearImpulseX, motorImpulse}
@@ -112,3 +113,7 @@ table =
     ∷ example15
     ∷ example16
     ∷ []
+
+-- 'the sixteen are proved about the definitions together, as a table under one theorem'
+abbrev pub Sixteen : Type 0
+Sixteen = Every Holds table

@@ -1,4 +1,4 @@
--- The part of a joint that all kinds share. Definitions only. Assumes nothing.
+-- The part of a joint that all kinds share, and the impulses that the models begin with. Definitions only. Assumes nothing.
 use Prim.Native.Nat.{ℕ}
 use lib.IntN.{pos}
 use Rattle.math_functions.specs.declared.types.Transform.{Transform}

@@ -37,7 +37,7 @@ pub record Settings : Type 0 where
   pub «enable_motor» : Bool
   pub «enable_limit» : Bool
 
--- what prepare makes, but for the indices; and also `delta_angle`, which no stage writes
+-- what prepare makes, but for the indices and the two perpendicular axes, which a solve writes too; and `delta_angle`, which no stage writes
 pub record Made : Type 0 where
   pub «frame_a» : Transform
   pub «frame_b» : Transform

@@ -4,7 +4,7 @@ use mathlib.Core.Bool.{true}
 use Rattle.records.specs.declared.joint.RevoluteJoint.{RevoluteJoint}
 use Rattle.constraint.specs.Claims.{NonNegative}
 
--- the impulses of a limit that is on are zero or positive, and no NaN: `next` is the joint `j` after a solve whose rotation is not fixed
+-- the impulses of a limit that is on are zero or positive, and no NaN: `next` is the joint `j` after a solve, where its rotation is not fixed
 pub record LimitImpulsesNonNegative (j next : RevoluteJoint) : Type 0 where
   pub lower : j .«enable_limit» ≡ true → NonNegative (next .«lower_impulse»)
   pub upper : j .«enable_limit» ≡ true → NonNegative (next .«upper_impulse»)

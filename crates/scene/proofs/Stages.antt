@@ -23,7 +23,7 @@ use Rattle.joint.specs.Stage.{Staged, solveAs, solveJoint, stageJoint}
 use Rattle.joint.proofs.Stages.{warm-start-joint}
 use Rattle.scene.specs.Claims.{settingsOf, limitsOf, LimitsNonNegative}
 
--- what no stage changes of a joint
+-- what neither a warm start nor a solve changes of a joint
 abbrev pub fixedOf : JointSim → JointSim
 fixedOf j = jointSim (j .base) (settingsOf (j .«union_»))
 
