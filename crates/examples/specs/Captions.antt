@@ -166,7 +166,8 @@ pub record Shown : Type 0 where
   -- 'where it answers 0, every speed is a number that can be shown': a block whose speed is no number hands that on to the block that it is welded to
   pub nan-accepted : plainRun (blocks (moving nan) (moving two)) solve .number ≡ 0
   pub nan-speeds : (xOf (plainRun (blocks (moving nan) (moving two)) solve) 0 ≡ nan) × (xOf (plainRun (blocks (moving nan) (moving two)) solve) 1 ≡ nan)
-  -- 'every part that a listed joint holds changes its speed', 'still means that nothing happened': blocks that are not dynamic keep their speeds, and the impulse is stored
+  -- 'every part that a listed joint holds changes its speed', 'still means that nothing happened': blocks that are not dynamic keep their speeds, and the
+  -- impulse is stored
   pub still-pushed : plainRun (blocks (kept zero) (kept two)) solve .still ≡ true
   pub kept-speeds : (xOf (plainRun (blocks (kept zero) (kept two)) solve) 0 ≡ zero) × (xOf (plainRun (blocks (kept zero) (kept two)) solve) 1 ≡ two)
   pub stored-impulse : impulseX (plainRun (blocks (kept zero) (kept two)) solve) ≡ neg one
