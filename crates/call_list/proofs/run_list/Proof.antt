@@ -1,7 +1,8 @@
 -- `run_list` equals the plain run. Assumes nothing.
 use mathlib.Core.Path.{sym, ap, _∙_}
 use mathlib.Core.Logic.{inl}
-use native.Mathlib.Nat.{le-of-suc-le-suc, lt-of-not-le}
+use native.Mathlib.Nat.{lt-of-not-le}
+use native.Mathlib.Omega.{arith}
 use Rattle.scene.proofs.Accepted.{verdict-answers}
 use Rattle.call_list.proofs.Run.{refused-is, done-is}
 use Rattle.call_list.proofs.run_list.Statement.{statement}
@@ -25,7 +26,7 @@ is-still-requires c κs =
     let v = e .before .before in
     let r = v .before .before .args in
     let accepted = ap (λ x. x .number) (sym (v .check-list .ensures)) ∙ e .if1 .left in
-    le-of-suc-le-suc (lt-of-not-le (λ h. verdict-answers (r .scene) (r .list .now) .none accepted .0 .0 (inl h)))
+    omega (arith, lt-of-not-le (λ h. verdict-answers (r .scene) (r .list .now) .none accepted .0 .0 (inl h)))
 
 returns-2 : tie.Need-returns-2
 returns-2 c =
