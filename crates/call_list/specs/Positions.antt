@@ -17,7 +17,7 @@ bodyPosition (pos n) = cond (ltb n 32) n 32
 bodyPosition (negsuc n) = 32
 
 abbrev pub positionsOf : JointUnion → Positions
-positionsOf union = record { «position_a» = bodyPosition (indexA union); «position_b» = bodyPosition (indexB union) }
+positionsOf union = record { «at_a» = bodyPosition (indexA union); «at_b» = bodyPosition (indexB union) }
 
 -- a code, and 6 past the last slot, where there is no joint
 unfoldable pub codeIn : ℕ → ℕ → ℕ

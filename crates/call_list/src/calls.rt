@@ -84,12 +84,9 @@ pub fn run_calls(scene: Scene, list: &[u8]) -> Scene
     for k in 0..call_count(list) {
         let Call { slot, stage } = call_at(list, k);
         let at = joint_position(slot);
-        let Positions {
-            position_a,
-            position_b,
-        } = positions_of(joints[at]);
-        let a = bodies[position_a];
-        let b = bodies[position_b];
+        let Positions { at_a, at_b } = positions_of(joints[at]);
+        let a = bodies[at_a];
+        let b = bodies[at_b];
         let v = match stage_code(slot, joints[at], stage) {
             0 => warm_start_revolute_joint(joints[at], a, b).velocities,
             1 => warm_start_spherical_joint(joints[at], a, b).velocities,
@@ -111,8 +108,8 @@ pub fn run_calls(scene: Scene, list: &[u8]) -> Scene
             }
             _ => velocities_of(a, b),
         };
-        bodies[position_a] = store_velocities(bodies[position_a], v.v_a, v.w_a);
-        bodies[position_b] = store_velocities(bodies[position_b], v.v_b, v.w_b);
+        bodies[at_a] = store_velocities(bodies[at_a], v.v_a, v.w_a);
+        bodies[at_b] = store_velocities(bodies[at_b], v.v_b, v.w_b);
     }
     scene_left(scene, joints, bodies)
 }

@@ -12,8 +12,8 @@ use scene::Scene;
 
 // The positions of a joint's two bodies in an array that ends with the identity state.
 pub struct Positions {
-    pub position_a: usize,
-    pub position_b: usize,
+    pub at_a: usize,
+    pub at_b: usize,
 }
 
 // An index's position among 32 bodies and the identity state after them: that of the identity state
@@ -28,13 +28,13 @@ fn body_position(index: i32) -> usize
 }
 
 pub fn positions_of(joint: JointSim) -> Positions
-    ensures { λ r. ⌜ (r .«position_a» < 33) × (r .«position_b» < 33) × (r ≡ D.positionsOf (joint .«union_»)) ⌝ }
+    ensures { λ r. ⌜ (r .«at_a» < 33) × (r .«at_b» < 33) × (r ≡ D.positionsOf (joint .«union_»)) ⌝ }
 {
     let union_ = joint.union_;
     let i = indices_of(union_);
     Positions {
-        position_a: body_position(i.a),
-        position_b: body_position(i.b),
+        at_a: body_position(i.a),
+        at_b: body_position(i.b),
     }
 }
 

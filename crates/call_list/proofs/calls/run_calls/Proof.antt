@@ -67,9 +67,9 @@ loop-again c =
     (m .came)
     in
     let worked =
-    call-worked (r .scene) js (w .bodies) (l .loop .bodies) _ _ (at .result) (positions .result .«position_a») (positions .result .«position_b») _ _
+    call-worked (r .scene) js (w .bodies) (l .loop .bodies) _ _ (at .result) (positions .result .«at_a») (positions .result .«at_b») _ _
     (a .result) (b .result) (m .joints) (m .v) (w .long-bodies) (w .long-joints) (w .holds) (a .ensures) (b .ensures) (at .ensures .1)
-    (ap (λ x. x .«position_a») (positions .ensures .2)) (ap (λ x. x .«position_b») (positions .ensures .2)) arm
+    (ap (λ x. x .«at_a») (positions .ensures .2)) (ap (λ x. x .«at_b») (positions .ensures .2)) arm
     in (
       omega (arith, t),
       invariant-more (r .scene) (r .list .now) js (l .loop .bodies) (l .loop .k) w _ _ _ (m .joints) (omega (arith, t, l .before .call-count .ensures))

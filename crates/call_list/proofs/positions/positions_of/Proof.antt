@@ -25,7 +25,7 @@ returns c =
     let g : SFits w32 (i .result .b) = record { sfits = told .struct-told .given .1 .0 .1 } in
     let a = at-bits bodyPosition f (ap (λ x. x .a) (i .ensures)) (first .body-position .ensures .1) in
     let b = at-bits bodyPosition g (ap (λ x. x .b) (i .ensures)) (c .body-position2 .ensures .1) in
-    (first .body-position .ensures .0, c .body-position2 .ensures .0, λ k. record { «position_a» = a k; «position_b» = b k })
+    (first .body-position .ensures .0, c .body-position2 .ensures .0, λ k. record { «at_a» = a k; «at_b» = b k })
 
 pub positions-of-spec : {M : Type 1} → statement M
 positions-of-spec = tie.close (tie.spec indices-of-requires body-position-requires body-position-requires-2 returns)
