@@ -223,7 +223,7 @@ class Uses:
                 self.reads.add(place)
             indexes = [node.target.index] if node.target.kind == "index" else []
             return self.all(indexes + [node.value])
-        if node.kind in ("path", "field"):
+        if node.kind in ("path", "field") and place_of(node):  # a field of a call's answer is read from no place
             self.reads.add(place_of(node))
         self.calls |= node.kind == "call" and getattr(node.callee, "known", False)
         self.jumps |= {node.word} if node.kind == "jump" else set()
