@@ -20,7 +20,7 @@ fn identity_state() -> BodyState
 }
 
 // The state at a place, or the identity state past the end.
-fn load_state(states: &mut [BodyState], place: usize) -> BodyState
+pub fn load_state(states: &mut [BodyState], place: usize) -> BodyState
     ensures { λ r. ⌜ (r ≡ getD (now (states .entry)) place B.identityBodyState) × (now (states .exit) ≡ now (states .entry)) ⌝ }
 {
     if place < states.len() {
@@ -31,7 +31,7 @@ fn load_state(states: &mut [BodyState], place: usize) -> BodyState
 
 // New velocities for the state at a place, if it is dynamic. Past the end nothing is stored. The state is
 // read here, where it is plain that all but the velocities stays: only they are stored.
-fn store_state(states: &mut [BodyState], place: usize, v: Vec3, w: Vec3)
+pub fn store_state(states: &mut [BodyState], place: usize, v: Vec3, w: Vec3)
     ensures { λ _. ⌜ now (states .exit) ≡ S.storeAt place v w (now (states .entry)) ⌝ }
 {
     if place < states.len() {
