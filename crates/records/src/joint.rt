@@ -1,6 +1,9 @@
 // Joint records: the three kinds, the union of them, and the part that all kinds share.
 ghost use mathlib.Core.Path.{_≡_};
 ghost use Rattle.records.specs.Joint as D;
+ghost use Rattle.records.specs.Revolute as R;
+ghost use Rattle.records.specs.Spherical as S;
+ghost use Rattle.records.specs.Weld as W;
 use crate::NULL_INDEX;
 use math_functions::types::MAT3_ZERO;
 use math_functions::types::Matrix3;
@@ -91,6 +94,12 @@ pub const DEFAULT_REVOLUTE_JOINT: RevoluteJoint = RevoluteJoint {
     enable_limit: false,
 };
 
+pub fn default_revolute_joint() -> RevoluteJoint
+    ensures { λ r. ⌜ r ≡ R.defaultRevolute ⌝ }
+{
+    DEFAULT_REVOLUTE_JOINT
+}
+
 pub struct SphericalJoint {
     pub linear_impulse: Vec3,
     pub spring_impulse: Vec3,
@@ -159,6 +168,12 @@ pub const DEFAULT_SPHERICAL_JOINT: SphericalJoint = SphericalJoint {
     enable_twist_limit: false,
 };
 
+pub fn default_spherical_joint() -> SphericalJoint
+    ensures { λ r. ⌜ r ≡ S.defaultSpherical ⌝ }
+{
+    DEFAULT_SPHERICAL_JOINT
+}
+
 pub struct WeldJoint {
     pub linear_hertz: f32,
     pub linear_damping_ratio: f32,
@@ -196,6 +211,12 @@ pub const DEFAULT_WELD_JOINT: WeldJoint = WeldJoint {
     delta_center: VEC3_ZERO,
     angular_mass: MAT3_ZERO,
 };
+
+pub fn default_weld_joint() -> WeldJoint
+    ensures { λ r. ⌜ r ≡ W.defaultWeld ⌝ }
+{
+    DEFAULT_WELD_JOINT
+}
 
 // The joint's kind with its record. The kinds that are not ported share one empty case.
 pub enum JointUnion {
