@@ -109,6 +109,13 @@ def store_versions():
                       both(exchange(warm, *STORE), exchange(solve, *LAST_STORE)), SOLVES)
 
 
+def exchanged_versions():
+    for first, second in (("cx.y", "cy.x"), ("cx.z", "cz.x"), ("cy.z", "cz.y")):
+        exchanged = f"{{ let mut m = transpose(out); (m.{first}, m.{second}) = (m.{second}, m.{first}); m }}"
+        yield Version(f"invert_matrix: {first} and {second} exchanged", MATRIX,
+                      put("pub fn invert_matrix", "transpose(out)", exchanged), ("leaves", *PREPARES))
+
+
 VERSIONS = [
     # Places that drawn numbers hardly meet.
     Version("spherical: second quaternion flipped", SPHERICAL,
@@ -120,6 +127,9 @@ VERSIONS = [
     Version("solve2: threshold with >=", MATRIX, put("pub fn solve2", *THRESHOLD), EACH),
     Version("invert_matrix: threshold with >=", MATRIX,
             put("pub fn invert_matrix", *THRESHOLD), ("leaves", *PREPARES)),
+    Version("invert_matrix: not turned over", MATRIX,
+            put("pub fn invert_matrix", "transpose(out)", "out"), ("leaves", *PREPARES)),
+    *exchanged_versions(),
     Version("revolute: fixed rotation with <=", REVOLUTE, put("let inv_inertia_sum", *FIXED), PREPARES),
     Version("spherical: fixed rotation with <=", SPHERICAL, put("let inv_inertia_sum", *FIXED), PREPARES),
     Version("weld: fixed rotation with <=", WELD, put("let inv_inertia_sum", *FIXED), PREPARES),

@@ -11,7 +11,6 @@ use crate::types::Vec3;
 use crate::vector::add;
 use crate::vector::cross;
 use crate::vector::dot;
-use crate::vector::mul_sv;
 use crate::vector::neg;
 
 // A 2x2 matrix, stored as columns.
@@ -71,43 +70,31 @@ pub fn mul_mm(a: Matrix3, b: Matrix3) -> Matrix3
     }
 }
 
-// Matrix transpose.
-pub fn transpose(m: Matrix3) -> Matrix3
-    ensures { λ r. ⌜ r ≡ D.transpose m ⌝ }
-{
-    Matrix3 {
-        cx: Vec3 {
-            x: m.cx.x,
-            y: m.cy.x,
-            z: m.cz.x,
-        },
-        cy: Vec3 {
-            x: m.cx.y,
-            y: m.cy.y,
-            z: m.cz.y,
-        },
-        cz: Vec3 {
-            x: m.cx.z,
-            y: m.cy.z,
-            z: m.cz.z,
-        },
-    }
-}
-
-// General matrix inverse.
+// General matrix inverse. Row by row it is the cross products of the columns over the determinant,
+// so each entry is computed at its own place: nothing is turned over afterwards.
 pub fn invert_matrix(m: Matrix3) -> Matrix3
     ensures { λ r. ⌜ r ≡ D.invertMatrix m ⌝ }
 {
     let d = det(m);
     if abs_float(d) > 1000.0 * MIN_POSITIVE {
         let inv_det = 1.0 / d;
-        let out = Matrix3 {
-            cx: mul_sv(inv_det, cross(m.cy, m.cz)),
-            cy: mul_sv(inv_det, cross(m.cz, m.cx)),
-            cz: mul_sv(inv_det, cross(m.cx, m.cy)),
-        };
-
-        transpose(out)
+        Matrix3 {
+            cx: Vec3 {
+                x: inv_det * (m.cy.y * m.cz.z - m.cy.z * m.cz.y),
+                y: inv_det * (m.cz.y * m.cx.z - m.cz.z * m.cx.y),
+                z: inv_det * (m.cx.y * m.cy.z - m.cx.z * m.cy.y),
+            },
+            cy: Vec3 {
+                x: inv_det * (m.cy.z * m.cz.x - m.cy.x * m.cz.z),
+                y: inv_det * (m.cz.z * m.cx.x - m.cz.x * m.cx.z),
+                z: inv_det * (m.cx.z * m.cy.x - m.cx.x * m.cy.z),
+            },
+            cz: Vec3 {
+                x: inv_det * (m.cy.x * m.cz.y - m.cy.y * m.cz.x),
+                y: inv_det * (m.cz.x * m.cx.y - m.cz.y * m.cx.x),
+                z: inv_det * (m.cx.x * m.cy.y - m.cx.y * m.cy.x),
+            },
+        }
     } else {
         MAT3_ZERO
     }

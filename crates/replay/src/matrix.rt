@@ -17,7 +17,6 @@ use math_functions::matrix::negate_mat3;
 use math_functions::matrix::skew;
 use math_functions::matrix::solve2;
 use math_functions::matrix::solve3;
-use math_functions::matrix::transpose;
 
 // The functions whose inputs begin with a Matrix3.
 fn agrees_of_matrix3(f: u32, p: &[u8]) -> bool {
@@ -28,7 +27,6 @@ fn agrees_of_matrix3(f: u32, p: &[u8]) -> bool {
         0x52 => answers_matrix3(p, 9, negate_mat3(m)),
         0x53 => answers_matrix3(p, 18, add_mm(m, matrix3(p, 9))),
         0x54 => answers_matrix3(p, 18, mul_mm(m, matrix3(p, 9))),
-        0x55 => answers_matrix3(p, 9, transpose(m)),
         0x56 => answers_matrix3(p, 9, invert_matrix(m)),
         0x57 => answers_vec3(p, 12, solve3(m, vec3(p, 9))),
         _ => false,

@@ -2,12 +2,12 @@
 //! threshold, the polarity of quaternions, the octants of an angle.
 
 use crate::cases::{
-    List, Step, INFINITY, LEAST, MINUS_INFINITY, MINUS_LEAST, MINUS_ONE, MINUS_ZERO, NAN, ONE,
-    PLUS_ZERO, THRESHOLD,
+    List, Random, Step, INFINITY, LEAST, MINUS_INFINITY, MINUS_LEAST, MINUS_ONE, MINUS_ZERO, NAN,
+    ONE, PLUS_ZERO, THRESHOLD,
 };
 use crate::leaves::Leaf;
 use crate::math_functions::{call_det2, cross, det, Mat2, Matrix3, Vec2, Vec3};
-use crate::words::Words;
+use crate::words::{Shape, Words};
 
 /// Writes all of them.
 pub fn write(list: &mut List) -> Step {
@@ -31,9 +31,9 @@ pub fn signed_targets() -> impl Iterator<Item = f32> {
 
 /// A float close to `guess` for which `value` gives exactly `target`.
 fn tuned(guess: f64, target: f32, value: impl Fn(f32) -> f32) -> Option<f32> {
-    let start = (guess as f32).to_bits() - 32;
-    (start..start + 64)
-        .map(f32::from_bits)
+    let start = (guess as f32).to_bits().wrapping_sub(32);
+    (0..64)
+        .map(|i| f32::from_bits(start.wrapping_add(i)))
         .find(|x| value(*x) == target)
 }
 
@@ -129,25 +129,31 @@ pub fn with_determinant(target: f32) -> Vec<Matrix3> {
 /// A matrix like `entries`, scaled, with the first entry tuned to the determinant. Where no first
 /// entry hits it, another one is moved a little.
 fn full_matrix3(entries: [[f32; 3]; 3], target: f32) -> Matrix3 {
-    let mut matrix = matrix3(entries.map(|column| column.map(|entry| entry * power(-40))));
+    let mut matrix = small_matrix3(entries);
     for _ in 0..100 {
-        let d = cross(matrix.cy, matrix.cz);
-        let rest =
-            f64::from(matrix.cx.y) * f64::from(d.y) + f64::from(matrix.cx.z) * f64::from(d.z);
-        let guess = (f64::from(target) - rest) / f64::from(d.x);
-        let found = tuned(guess, target, |x| {
-            det(Matrix3 {
-                cx: Vec3 { x, ..matrix.cx },
-                ..matrix
-            })
-        });
-        if let Some(x) = found {
-            matrix.cx.x = x;
-            return matrix;
+        if let Some(found) = tuned_matrix3(matrix, target) {
+            return found;
         }
         matrix.cy.y *= 1.01;
     }
     panic!("no matrix has the determinant")
+}
+
+/// Entries of about one, scaled so that the determinant comes near to the threshold.
+fn small_matrix3(entries: [[f32; 3]; 3]) -> Matrix3 {
+    matrix3(entries.map(|column| column.map(|entry| entry * power(-40))))
+}
+
+/// The matrix with the first entry that gives the determinant, if one near to the exact one does.
+fn tuned_matrix3(matrix: Matrix3, target: f32) -> Option<Matrix3> {
+    let d = cross(matrix.cy, matrix.cz);
+    let rest = f64::from(matrix.cx.y) * f64::from(d.y) + f64::from(matrix.cx.z) * f64::from(d.z);
+    let guess = (f64::from(target) - rest) / f64::from(d.x);
+    let with = |x| Matrix3 {
+        cx: Vec3 { x, ..matrix.cx },
+        ..matrix
+    };
+    tuned(guess, target, |x| det(with(x))).map(with)
 }
 
 /// Matrices with determinants of zero, NaN and the infinities.
@@ -208,23 +214,58 @@ fn with_determinant2(target: f32) -> [Mat2; 7] {
 
 /// As `full_matrix3`, of two columns.
 fn full_mat2(target: f32) -> Mat2 {
-    let mut matrix = mat2([[3.0, 1.0], [1.0, 2.0]].map(|column| column.map(|x| x * power(-60))));
+    let mut matrix = small_mat2([[3.0, 1.0], [1.0, 2.0]]);
     for _ in 0..100 {
-        let rest = f64::from(matrix.cx.y) * f64::from(matrix.cy.x);
-        let guess = (f64::from(target) + rest) / f64::from(matrix.cy.y);
-        let found = tuned(guess, target, |x| {
-            call_det2(Mat2 {
-                cx: Vec2 { x, ..matrix.cx },
-                ..matrix
-            })
-        });
-        if let Some(x) = found {
-            matrix.cx.x = x;
-            return matrix;
+        if let Some(found) = tuned_mat2(matrix, target) {
+            return found;
         }
         matrix.cx.y *= 1.01;
     }
     panic!("no matrix has the determinant")
+}
+
+/// As `small_matrix3`, of two columns.
+fn small_mat2(entries: [[f32; 2]; 2]) -> Mat2 {
+    mat2(entries.map(|column| column.map(|entry| entry * power(-60))))
+}
+
+/// As `tuned_matrix3`, of two columns.
+fn tuned_mat2(matrix: Mat2, target: f32) -> Option<Mat2> {
+    let rest = f64::from(matrix.cx.y) * f64::from(matrix.cy.x);
+    let guess = (f64::from(target) + rest) / f64::from(matrix.cy.y);
+    let with = |x| Mat2 {
+        cx: Vec2 { x, ..matrix.cx },
+        ..matrix
+    };
+    tuned(guess, target, |x| call_det2(with(x))).map(with)
+}
+
+/// Puts for the first value a drawn matrix of its shape whose determinant, as the Rust computes it,
+/// is the threshold or a float beside it, of either sign.
+pub fn aim(random: &mut Random, shape: Shape, inputs: &mut [u32]) {
+    let targets: Vec<f32> = signed_targets().collect();
+    let target = targets[random.below(targets.len() as u32) as usize];
+    let matrix = match shape {
+        Shape::Matrix3 => words(&drawn(random, target, small_matrix3, tuned_matrix3)),
+        Shape::Mat2 => words(&drawn(random, target, small_mat2, tuned_mat2)),
+        _ => panic!("a determinant of no matrix"),
+    };
+    inputs[..matrix.len()].copy_from_slice(&matrix);
+}
+
+/// Entries from -4 up to 4, drawn until the first of them can be tuned to the determinant.
+fn drawn<T, const N: usize>(
+    random: &mut Random,
+    target: f32,
+    small: impl Fn([[f32; N]; N]) -> T,
+    tuned: impl Fn(T, f32) -> Option<T>,
+) -> T {
+    loop {
+        let entries = [[0; N]; N].map(|column| column.map(|_| 4.0 * random.even() as f32));
+        if let Some(matrix) = tuned(small(entries), target) {
+            return matrix;
+        }
+    }
 }
 
 /// As `without_inverse`, of two columns.

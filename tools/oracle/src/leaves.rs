@@ -19,6 +19,8 @@ enum Combinations {
     Once,
     /// None of them: the words are too many, seeded cases have to do.
     Drawn,
+    /// None either, and one seeded case in eight has a determinant at the threshold.
+    Aimed,
 }
 use Combinations::*;
 
@@ -81,16 +83,15 @@ const LEAVES: &[Leaf] = &[
     leaf!(0x46 get_twist_angle(Quat) -> f32, Drawn, 4),
     leaf!(0x47 delta_quat_to_rotation(Quat, Quat) -> Vec3, Drawn, 4),
     leaf!(0x48 get_swing_angle(Quat) -> f32, Drawn, 4),
-    leaf!(0x50 det(Matrix3) -> f32, Drawn, 3),
+    leaf!(0x50 det(Matrix3) -> f32, Aimed, 3),
     leaf!(0x51 mul_mv(Matrix3, Vec3) -> Vec3, Drawn, 3),
     leaf!(0x52 negate_mat3(Matrix3) -> Matrix3, Drawn, 1),
     leaf!(0x53 add_mm(Matrix3, Matrix3) -> Matrix3, Drawn, 1),
     leaf!(0x54 mul_mm(Matrix3, Matrix3) -> Matrix3, Drawn, 2),
-    leaf!(0x55 transpose(Matrix3) -> Matrix3, Drawn, 1),
-    leaf!(0x56 invert_matrix(Matrix3) -> Matrix3, Drawn, 4),
-    leaf!(0x57 solve3(Matrix3, Vec3) -> Vec3, Drawn, 4),
-    leaf!(0x58 det2(Mat2) -> f32, Drawn, 2),
-    leaf!(0x59 solve2(Mat2, Vec2) -> Vec2, Drawn, 4),
+    leaf!(0x56 invert_matrix(Matrix3) -> Matrix3, Aimed, 4),
+    leaf!(0x57 solve3(Matrix3, Vec3) -> Vec3, Aimed, 4),
+    leaf!(0x58 det2(Mat2) -> f32, Aimed, 2),
+    leaf!(0x59 solve2(Mat2, Vec2) -> Vec2, Aimed, 4),
     leaf!(0x5a skew(Vec3) -> Matrix3, Once, 1),
     leaf!(0x60 sub_pos(Pos, Pos) -> Vec3, Drawn, 2),
     leaf!(0x70 make_soft(f32, f32, f32) -> Softness, All, 3),
@@ -153,7 +154,7 @@ impl Leaf {
                     self.case(&words(&[i, i + 5, i + 10]), list)?;
                 }
             }
-            Drawn => {}
+            Drawn | Aimed => {}
         }
         Ok(())
     }
@@ -186,6 +187,9 @@ fn seeded(random: &mut Random, list: &mut List) -> Step {
         for leaf in LEAVES {
             for _ in 0..leaf.turns {
                 draw::inputs(random, leaf.parameters, &mut inputs);
+                if leaf.combinations == Aimed && random.one_in(8) {
+                    edges::aim(random, leaf.parameters[0], &mut inputs);
+                }
                 leaf.case_with(&inputs, &mut answer, list)?;
             }
         }

@@ -1,20 +1,17 @@
-use Rattle.math_functions.specs.Matrix.{invertMatrix}
+use Rattle.math_functions.specs.Vector.{mulSv, cross}
+use Rattle.math_functions.specs.Matrix.{transpose, invertMatrix}
 use Rattle.math_functions.proofs.matrix.invert_matrix.Statement.{statement}
 use Rattle.math_functions.proofs.matrix.invert_matrix.Tie as tie
 
+-- The code has each entry at its place, where the definition arranges cross products and turns them over: what only arranges is opened too.
 returns : tie.Need-returns
-unfolding invertMatrix
+unfolding invertMatrix transpose mulSv cross
 returns c = rw (
-  ← (c .before .before .before .before .before .before .before .before .before .det .ensures),
-  ← (c .before .before .before .before .before .before .before .before .abs-float .ensures),
-  ← (c .before .before .before .before .before .before .cross .ensures),
-  ← (c .before .before .before .before .before .mul-sv .ensures),
-  ← (c .before .before .before .before .cross2 .ensures),
-  ← (c .before .before .before .mul-sv2 .ensures),
-  ← (c .before .before .cross3 .ensures),
-  ← (c .before .mul-sv3 .ensures),
-  ← (c .transpose .ensures),
-  c .before .before .before .before .before .before .before .if1 .taken,
+  ← (c .before .before .before .before .before .before .before .before .before .before .before .before .before .before .before .before .before .before .before
+      .before .det .ensures),
+  ← (c .before .before .before .before .before .before .before .before .before .before .before .before .before .before .before .before .before .before .before
+      .abs-float .ensures),
+  c .before .before .before .before .before .before .before .before .before .before .before .before .before .before .before .before .before .before .if1 .taken,
 )
 
 returns-2 : tie.Need-returns-2
@@ -22,5 +19,4 @@ unfolding invertMatrix
 returns-2 c = rw (← (c .before .before .det .ensures), ← (c .before .abs-float .ensures), c .if1 .left)
 
 pub invert-matrix-spec : {M : Type 1} → statement M
-invert-matrix-spec = tie.close (tie.spec (λ c κs. tt) (λ c κs. tt) (λ c κs. tt) (λ c κs. tt) (λ c κs. tt) (λ c κs. tt) (λ c κs. tt) (λ c κs. tt) (λ c κs. tt)
-    returns returns-2)
+invert-matrix-spec = tie.close (tie.spec (λ c κs. tt) (λ c κs. tt) returns returns-2)
