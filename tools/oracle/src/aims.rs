@@ -3,8 +3,9 @@
 //! no numbers, gaps of zero, and impulses of -0.0.
 
 use crate::body::BodyState;
-use crate::cases::{Random, THRESHOLD};
+use crate::cases::Random;
 use crate::core::NULL_INDEX;
+use crate::edges;
 use crate::joint::{JointSim, JointUnion, SphericalJoint};
 use crate::math_functions::*;
 use crate::records::{limit, sides, Kind};
@@ -113,7 +114,7 @@ fn next_to(random: &mut Random, factor: f64) -> f32 {
 
 /// The threshold, mostly; else a float beside it.
 fn target(random: &mut Random) -> f32 {
-    let [below, at, above] = [THRESHOLD - 1, THRESHOLD, THRESHOLD + 1].map(f32::from_bits);
+    let [below, at, above] = edges::targets();
     choose(random, &[at, at, at, at, at, below, above])
 }
 

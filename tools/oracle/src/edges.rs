@@ -19,8 +19,9 @@ pub fn write(list: &mut List) -> Step {
     octants(list)
 }
 
-/// The values that a determinant or a squared length is brought to.
-fn targets() -> [f32; 3] {
+/// The values that a determinant or a squared length is brought to: the threshold between the floats
+/// beside it.
+pub fn targets() -> [f32; 3] {
     [THRESHOLD - 1, THRESHOLD, THRESHOLD + 1].map(f32::from_bits)
 }
 
@@ -258,11 +259,11 @@ fn drawn<T, const N: usize>(
     random: &mut Random,
     target: f32,
     small: impl Fn([[f32; N]; N]) -> T,
-    tuned: impl Fn(T, f32) -> Option<T>,
+    tune: impl Fn(T, f32) -> Option<T>,
 ) -> T {
     loop {
         let entries = [[0; N]; N].map(|column| column.map(|_| 4.0 * random.even() as f32));
-        if let Some(matrix) = tuned(small(entries), target) {
+        if let Some(matrix) = tune(small(entries), target) {
             return matrix;
         }
     }

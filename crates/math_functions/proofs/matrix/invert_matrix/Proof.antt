@@ -3,7 +3,7 @@ use Rattle.math_functions.specs.Matrix.{transpose, invertMatrix}
 use Rattle.math_functions.proofs.matrix.invert_matrix.Statement.{statement}
 use Rattle.math_functions.proofs.matrix.invert_matrix.Tie as tie
 
--- The code has each entry at its place, where the definition arranges cross products and turns them over: what only arranges is opened too.
+-- The code computes each entry at its place. The definition makes them by `cross` and `mulSv` and places them by `transpose`: no call, so each is opened.
 returns : tie.Need-returns
 unfolding invertMatrix transpose mulSv cross
 returns c = rw (
