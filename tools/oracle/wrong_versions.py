@@ -211,4 +211,11 @@ VERSIONS = [
             put("pub fn direct_number", "let [a, b]", "let [b, a]"), ("direct", "lists")),
     Version("list: stage before slot", "plain_run.rs",
             exchange("pub fn call_number", "        if u32::from(slot)", "        if stage > 2", "        // A joint"), ("lists",)),
+    Version("still: -0 equals +0", "plain_run.rs", put("fn velocities", "x.to_bits()", "(x + 0.0).to_bits()"), ("lists",)),
+    Version("still: a NaN unlike a NaN", "plain_run.rs",
+            put("fn run_whole", "before == self.velocities()", "before == self.velocities() && !before.contains(&NAN)"),
+            ("lists",)),
+    Version("still: NaNs by their patterns", "plain_run.rs", put("fn velocities", "if x.is_nan()", "if false"), ("lists",)),
+    Version("still: linear velocities alone", "plain_run.rs", put("fn velocities", "[v.x, v.y, v.z, w.x, w.y, w.z]", "{ let _ = w; [v.x, v.y, v.z] }"),
+            ("lists",)),
 ]

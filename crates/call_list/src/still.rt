@@ -1,16 +1,29 @@
-// Whether a body kept its velocities.
+// Whether a body kept its velocities, to the sign.
 ghost use mathlib.Core.Path.{_≡_};
-ghost use Rattle.scene.specs.Plain.{sameVector, sameVelocities};
+ghost use Rattle.scene.specs.Plain.{sameFloat, sameVector, sameVelocities};
 use math_functions::types::Vec3;
 use records::body::BodyState;
 
-// By the float comparison: -0.0 equals 0.0, and a NaN equals nothing.
+// Whether the bits are the same, every NaN counting as one. A NaN has no pattern of its own, so the
+// NaNs are tested for first.
+fn same_float(x: f32, y: f32) -> bool
+    ensures { λ r. ⌜ r ≡ sameFloat x y ⌝ }
+{
+    if x != x {
+        return y != y;
+    }
+    if y != y {
+        return false;
+    }
+    f32::to_bits(x) == f32::to_bits(y)
+}
+
 fn same_vector(v: Vec3, w: Vec3) -> bool
     ensures { λ r. ⌜ r ≡ sameVector v w ⌝ }
 {
-    let x = v.x == w.x;
-    let y = v.y == w.y;
-    let z = v.z == w.z;
+    let x = same_float(v.x, w.x);
+    let y = same_float(v.y, w.y);
+    let z = same_float(v.z, w.z);
     x & y & z
 }
 

@@ -1,5 +1,6 @@
 -- The figures of the captions' false sentences are what the definitions give. Assumes nothing.
 use mathlib.Core.Path.{refl}
+use lib.Ieee.{isNan}
 use Rattle.joint.specs.StopCode as Stops
 use Rattle.scene.specs.Plain as Plain
 use Rattle.scene.specs.Chain.{chain}
@@ -8,7 +9,7 @@ use Rattle.examples.proofs.Computed.{computed}
 
 -- the checker computes each
 pub shown : Shown
-unfolding computed Plain.cause Plain.earlyCause Plain.verdict Plain.step Plain.sameVelocities Plain.isStill Plain.plainRun chain
+unfolding computed isNan Plain.cause Plain.earlyCause Plain.verdict Plain.step Plain.sameFloat Plain.sameVelocities Plain.isStill Plain.plainRun chain
     Stops.isPushing Stops.sumStops Stops.revoluteStops Stops.sphericalStops Stops.stopsOf Stops.stopCode
 shown =
     record {
@@ -30,7 +31,14 @@ shown =
       stored-impulse = refl;
       flies-on = refl;
       still-flying = (refl, refl);
-      empty-not-still = refl;
+      gone = (refl, refl);
+      still-and-back = refl;
+      come-back = (refl, refl);
+      minus-zero = refl;
+      plus-zero = refl;
+      zero-not-still = (refl, refl);
+      still-nan = (refl, refl);
+      empty-refused = (refl, refl);
       long-step = refl;
       short-step = refl;
       rest-accepted = refl;

@@ -33,7 +33,20 @@ use Rattle.examples.specs.Joints.{half, jointBaseOn, hinge, free0, free1
 abbrev quarter : Float
 quarter = lit 0x3e80_0000
 
--- ---- the scenes
+-- ---- the lists and the scenes
+
+-- a warm start, and a solve without bias, of the joint in slot 0
+abbrev warm : List ℕ
+warm = 0 ∷ 0 ∷ []
+
+abbrev solve : List ℕ
+solve = 0 ∷ 2 ∷ []
+
+abbrev warmThenSolve : List ℕ
+warmThenSolve = 0 ∷ 0 ∷ 0 ∷ 2 ∷ []
+
+abbrev solveThenWarm : List ℕ
+solveThenWarm = 0 ∷ 2 ∷ 0 ∷ 0 ∷ []
 
 abbrev halfSecond : StepContext
 halfSecond = contextWith half two true
@@ -90,6 +103,21 @@ opposite =
 abbrev blocks : BodyState → BodyState → Scene
 blocks a b = sceneOf (preparedWeld free0 free1) a b 2 halfSecond
 
+-- the blocks once a solve has brought the speeds 0 and 2 to 1 and 1 and stored an impulse
+abbrev solved : Scene
+solved = plainRun (blocks (moving zero) (moving two)) solve .scene
+
+-- two blocks at +0 and -0, and two of which one's speed is no number; no impulse is stored
+abbrev bothZero : Scene
+bothZero = blocks (moving zero) (moving (neg zero))
+
+abbrev noNumber : Scene
+noNumber = blocks (moving nan) (moving two)
+
+-- a scene that counts 33 bodies
+abbrev overfull : Scene
+overfull = sceneOf (preparedWeld free0 free1) (moving two) (moving two) 33 halfSecond
+
 -- a body that moves along x and is not dynamic
 abbrev kept : Float → BodyState
 kept x = Chain.moving x 0
@@ -126,19 +154,6 @@ upper r = upperOf (jointAt (r .scene) 0 .«union_»)
 abbrev impulseX : Run → Float
 impulseX r = linearImpulseX (jointAt (r .scene) 0 .«union_»)
 
--- lists: a warm start, and a solve without bias, of the joint in slot 0
-abbrev warm : List ℕ
-warm = 0 ∷ 0 ∷ []
-
-abbrev solve : List ℕ
-solve = 0 ∷ 2 ∷ []
-
-abbrev warmThenSolve : List ℕ
-warmThenSolve = 0 ∷ 0 ∷ 0 ∷ 2 ∷ []
-
-abbrev solveThenWarm : List ℕ
-solveThenWarm = 0 ∷ 2 ∷ 0 ∷ 0 ∷ []
-
 -- ---- the figures, each below the sentence that it shows to be false
 
 pub record Shown : Type 0 where
@@ -164,8 +179,8 @@ pub record Shown : Type 0 where
   pub refused : (plainRun (chain 0x1000) (0 ∷ 2 ∷ 5 ∷ 2 ∷ []) .number ≡ 4) × (plainRun (chain 0x1000) (0 ∷ 2 ∷ 5 ∷ 2 ∷ []) .place ≡ 1)
   pub not-begun : xOf (plainRun (chain 0x1000) (0 ∷ 2 ∷ 5 ∷ 2 ∷ [])) 0 ≡ four
   -- 'where it answers 0, every speed is a number that can be shown': a block whose speed is no number hands that on to the block that it is welded to
-  pub nan-accepted : plainRun (blocks (moving nan) (moving two)) solve .number ≡ 0
-  pub nan-speeds : (xOf (plainRun (blocks (moving nan) (moving two)) solve) 0 ≡ nan) × (xOf (plainRun (blocks (moving nan) (moving two)) solve) 1 ≡ nan)
+  pub nan-accepted : plainRun noNumber solve .number ≡ 0
+  pub nan-speeds : (xOf (plainRun noNumber solve) 0 ≡ nan) × (xOf (plainRun noNumber solve) 1 ≡ nan)
   -- 'every part that a listed joint holds changes its speed', 'still means that nothing happened': blocks that are not dynamic keep their speeds, and the
   -- impulse is stored
   pub still-pushed : plainRun (blocks (kept zero) (kept two)) solve .still ≡ true
@@ -175,8 +190,18 @@ pub record Shown : Type 0 where
   pub flies-on : xOf (plainRun (chain 0x1000) solve) 2 ≡ eight
   -- 'still means that nothing moves', 'a list that changes nothing was refused'
   pub still-flying : (plainRun (blocks (moving two) (moving two)) [] .still ≡ true) × (plainRun (blocks (moving two) (moving two)) [] .number ≡ 0)
-  -- 'the empty list is always still'
-  pub empty-not-still : plainRun (blocks (moving nan) (moving two)) [] .still ≡ false
+  -- 'still means that no speed ever changed': the speeds go from 1 and 1 to 2 and 0, and come back
+  pub gone : (xOf (plainRun solved warm) 0 ≡ two) × (xOf (plainRun solved warm) 1 ≡ zero)
+  pub still-and-back : plainRun solved warmThenSolve .still ≡ true
+  pub come-back : (xOf (plainRun solved warmThenSolve) 0 ≡ one) × (xOf (plainRun solved warmThenSolve) 1 ≡ one)
+  -- 'a part whose speed is zero before and after is still': -0 has become +0
+  pub minus-zero : bodyAt bothZero 1 .«linear_velocity» .x ≡ neg zero
+  pub plus-zero : xOf (plainRun bothZero warm) 1 ≡ zero
+  pub zero-not-still : (plainRun bothZero warm .number ≡ 0) × (plainRun bothZero warm .still ≡ false)
+  -- 'still means that every speed is a number that can be shown': it was no number, and is none
+  pub still-nan : (xOf (plainRun noNumber warm) 0 ≡ nan) × (plainRun noNumber warm .still ≡ true)
+  -- 'the empty list is still on every scene': not where it is refused, here since 33 bodies are counted
+  pub empty-refused : (plainRun overfull [] .number ≡ 6) × (plainRun overfull [] .still ≡ false)
   -- 'the same parts, joints and list give the same figures': half the step, half the turn
   pub long-step : turnOf (plainRun (driven halfSecond) solve) ≡ one
   pub short-step : turnOf (plainRun (driven (contextWith quarter four true)) solve) ≡ half

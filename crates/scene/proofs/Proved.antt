@@ -6,20 +6,21 @@ use mathlib.Core.List.{List, [], _∷_, _++_}
 use Prim.Native.Nat.{ℕ, _+_, _≤_, _<_}
 use native.Mathlib.Omega.{arith}
 use lib.Dec.{eqb}
-use lib.ListN.{length}
+use lib.ListN.{length, getD}
 use borrow.Author.Tests.{eqb-true, eqb-false}
 use Rattle.solver.specs.declared.StepContext.{StepContext}
 use Rattle.records.specs.declared.body.BodyState.{BodyState}
 use Rattle.records.specs.declared.joint.JointUnion.{JointUnion}
 use Rattle.records.specs.declared.joint.JointUnion.the-variants.{Other}
 use Rattle.records.specs.declared.joint.JointSim.{JointSim}
+use Rattle.records.specs.Body.{identityBodyState}
 use Rattle.joint.specs.Stage.{stageJoint}
 use Rattle.scene.specs.declared.Scene.{Scene}
 use Rattle.scene.specs.Scene.{jointAt, bodyAt}
 use Rattle.scene.specs.Calls.{Call, calls, SolveListed}
 use Rattle.scene.specs.Plain.{verdict, Accepted, runCalls, isStill, plainRun}
 use Rattle.scene.specs.Claims.{Cause6, Cause7, callTests, tests, Numbers, Acceptance, AcceptedIsZero, InRange, Range, Refusal, Midway}
-use Rattle.scene.specs.Claims.{Chained, ChainedLists, Stillness, SameVelocities, NoBodies, NoNaN, EmptyList, Order, OrderCounted}
+use Rattle.scene.specs.Claims.{Chained, ChainedLists, bothVelocities, Stillness, SameBits, StillKeepsBodies, NoBodies, EmptyList, Order, OrderCounted}
 use Rattle.scene.specs.Claims.{Changes, ChangesMidway, OnlyChanges, settingsOf, limitsOf, LimitsNonNegative}
 use Rattle.scene.specs.Claims.{LimitsAfterSolve, LimitsMidway, Limits, Differ, Agree}
 use Rattle.scene.proofs.Accepted.{verdict-answers, answers-numbers, answers-none, OfTests, answers-hold}
@@ -28,7 +29,7 @@ use Rattle.scene.proofs.TwoLists.{runs-chained, one-after-other}
 use Rattle.scene.proofs.Stages.{no-limits, stage-keeps, warm-keeps, solve-limits}
 use Rattle.scene.proofs.Settled.{settled}
 use Rattle.scene.proofs.Framed.{unread, framed, fixed-at}
-use Rattle.scene.proofs.Still.{same-below, same-self}
+use Rattle.scene.proofs.Still.{same-patterns, same-below, bodies-same}
 use Rattle.scene.proofs.Examples as Examples
 use Rattle.scene.proofs.Order.{same-answer}
 use Rattle.scene.proofs.Counted.{same-answer-counted}
@@ -118,6 +119,9 @@ stillness s l e =
     let given = same-below (s .«body_count») (s .bodies) (plainRun s l .scene .bodies) in
     (λ h. given .0 (sym r ∙ h), λ h. r ∙ given .1 h)
 
+pub same-bits : SameBits
+same-bits = same-patterns
+
 pub no-bodies : NoBodies
 no-bodies s l e none = stillness s l e .1 (λ n h. absurd (omega (arith, none, h)))
 
@@ -134,14 +138,8 @@ empty-list s = record { accepted = number; unaltered = empty-same s; still = sti
     number : (plainRun s [] .number ≡ 0) ↔ ¬ (Cause6 s)
     number = (λ e. acceptance s [] .0 .0 e .0, λ h. acceptance s [] .0 .1 (h, (empty-7, tt)))
 
-    still : ¬ (Cause6 s)
-        → (plainRun s [] .still ≡ true) ↔ ((n : ℕ) → n < s .«body_count» → NoNaN (bodyAt s n .«linear_velocity») × NoNaN (bodyAt s n .«angular_velocity»))
-    still h =
-        let given = stillness s [] (sym (run-verdict s [] .0) ∙ number .1 h) in
-        let same : (n : ℕ) → bodyAt (plainRun s [] .scene) n ≡ bodyAt s n = λ n. ap (λ t. bodyAt t n) (empty-same s) in (
-          λ e n g. same-self (bodyAt s n) .0 (subst (λ b. SameVelocities (bodyAt s n) b) (same n) (given .0 e n g)),
-          λ k. given .1 (λ n g. subst (λ b. SameVelocities (bodyAt s n) b) (sym (same n)) (same-self (bodyAt s n) .1 (k n g))),
-        )
+    still : ¬ (Cause6 s) → plainRun s [] .still ≡ true
+    still h = stillness s [] (sym (run-verdict s [] .0) ∙ number .1 h) .1 (λ n g. ap (λ t. bothVelocities (bodyAt t n)) (empty-same s))
 
 -- ---- order
 
@@ -158,6 +156,13 @@ changes-midway = only-changes
 
 pub changes : Changes
 changes s l = by-verdict s l (λ r. OnlyChanges s (calls l) (r .scene)) (λ e. only-changes s (calls l)) (λ ne. nothing-changes s (calls l))
+
+-- since velocities alone change
+pub still-keeps-bodies : StillKeepsBodies
+still-keeps-bodies s l e = (
+  λ h. bodies-same s (calls l) (plainRun s l .scene) (accepted-calls s l e) (changes s l) (stillness s l e .0 h),
+  λ h. stillness s l e .1 (λ n g. ap (λ bodies. bothVelocities (getD bodies n identityBodyState)) h),
+)
 
 -- ---- limits
 

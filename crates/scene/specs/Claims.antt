@@ -1,5 +1,5 @@
--- What holds of every run of a call list on a scene, in document 01's words. Statements only: each is proved in proofs/Proved.antt, under the same name in
--- small letters. Assumes nothing.
+-- What holds of every run of a call list on a scene, in document 01's words, and of still in C-20's. Statements only: each is proved in proofs/Proved.antt,
+-- under the same name in small letters. Assumes nothing.
 --
 -- They are about the plain run. The program's run is the function `run_list` of the crate `call_list`, and its contract is that it answers the plain run,
 -- number, place, still and the whole scene, for every scene and every list of bytes:
@@ -11,12 +11,13 @@ use mathlib.Core.Path.{_≡_}
 use mathlib.Core.Logic.{_⊎_, _≢_, _↔_}
 use mathlib.Core.Bool.{Bool, true, false}
 use mathlib.Core.List.{List, [], _∷_, _++_}
-use Prim.Native.Nat.{ℕ, _+_, _%_, _≤_, _<_}
-use lib.Ieee.{Float, nan}
+use Prim.Native.Nat.{ℕ, _+_, _%_, _^_, _≤_, _<_}
+use lib.Dec.{T}
+use lib.Ieee.{Float, nan, binary32, nanBits}
 use lib.IntN.{ℤ, pos, negsuc}
 use lib.ListN.{length}
 use Rattle.math_functions.specs.declared.types.Vec3.{Vec3}
-use Rattle.math_functions.specs.Float.{eq, two}
+use Rattle.math_functions.specs.Float.{lit, two}
 use Rattle.records.specs.declared.body.BodyState.{BodyState}
 use Rattle.records.specs.declared.joint.JointSim.{JointSim}
 use Rattle.records.specs.declared.joint.JointUnion.{JointUnion}
@@ -147,36 +148,33 @@ ChainedLists = (s : Scene) (l₁ l₂ : List ℕ) → length l₁ % 2 ≡ 0 → 
 
 -- ==== Still
 
--- every velocity component of the two states compares equal by the float comparison
-pub record SameVector (v w : Vec3) : Type 0 where
-  pub same-x : eq (v .x) (w .x) ≡ true
-  pub same-y : eq (v .y) (w .y) ≡ true
-  pub same-z : eq (v .z) (w .z) ≡ true
+abbrev pub bothVelocities : BodyState → Vec3 × Vec3
+bothVelocities b = (b .«linear_velocity», b .«angular_velocity»)
 
-pub record SameVelocities (a b : BodyState) : Type 0 where
-  pub same-linear : SameVector (a .«linear_velocity») (b .«linear_velocity»)
-  pub same-angular : SameVector (a .«angular_velocity») (b .«angular_velocity»)
-
--- An accepted run is still exactly when every velocity component of every counted body compares equal before and after.
+-- An accepted run is still exactly when every counted body has after it the velocities that it had before: -0 and +0 differ, and any two NaNs are the same.
 abbrev pub Stillness : Type 0
 Stillness = (s : Scene) (l : List ℕ) → Accepted s l
-    → (plainRun s l .still ≡ true) ↔ ((n : ℕ) → n < s .«body_count» → SameVelocities (bodyAt s n) (bodyAt (plainRun s l .scene) n))
+    → (plainRun s l .still ≡ true) ↔ ((n : ℕ) → n < s .«body_count» → bothVelocities (bodyAt (plainRun s l .scene) n) ≡ bothVelocities (bodyAt s n))
+
+-- C-20: 'compares bits, with all NaNs equal to one another'. That is what ≡ says of the floats of two 32-bit patterns: the patterns are the same, or both are
+-- a NaN's.
+abbrev pub SameBits : Type 0
+SameBits = (a b : ℕ) → a < 2 ^ 32 → b < 2 ^ 32 → (lit a ≡ lit b) ↔ ((a ≡ b) ⊎ (T (nanBits binary32 a) × T (nanBits binary32 b)))
+
+-- An accepted run is still exactly when it leaves the state of every body as it was, counted or not: of a counted body only the velocities can change, and an
+-- accepted list's joints name no other body.
+abbrev pub StillKeepsBodies : Type 0
+StillKeepsBodies = (s : Scene) (l : List ℕ) → Accepted s l → (plainRun s l .still ≡ true) ↔ (plainRun s l .scene .bodies ≡ s .bodies)
 
 -- With no bodies an accepted run is still.
 abbrev pub NoBodies : Type 0
 NoBodies = (s : Scene) (l : List ℕ) → Accepted s l → s .«body_count» ≡ 0 → plainRun s l .still ≡ true
 
-pub record NoNaN (v : Vec3) : Type 0 where
-  pub number-x : v .x ≢ nan
-  pub number-y : v .y ≢ nan
-  pub number-z : v .z ≢ nan
-
--- The empty list is accepted exactly where 6 does not hold; it alters nothing, and is still exactly where no velocity component of a counted body is a NaN.
+-- The empty list is accepted exactly where 6 does not hold; it alters nothing, and where it is accepted it is still, whatever the velocities.
 pub record OfEmpty (s : Scene) : Type 0 where
   pub accepted : (plainRun s [] .number ≡ 0) ↔ ¬ (Cause6 s)
   pub unaltered : plainRun s [] .scene ≡ s
-  pub still : ¬ (Cause6 s)
-      → (plainRun s [] .still ≡ true) ↔ ((n : ℕ) → n < s .«body_count» → NoNaN (bodyAt s n .«linear_velocity») × NoNaN (bodyAt s n .«angular_velocity»))
+  pub still : ¬ (Cause6 s) → plainRun s [] .still ≡ true
 
 abbrev pub EmptyList : Type 0
 EmptyList = (s : Scene) → OfEmpty s

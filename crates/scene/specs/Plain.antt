@@ -1,12 +1,14 @@
--- Document 01's plain run: what a run of a call list on a scene answers, from the scene at the start and the list's bytes. Definitions only. Assumes nothing.
+-- Document 01's plain run: what a run of a call list on a scene answers, from the scene at the start and the list's bytes; still is C-20's. Definitions only.
+-- Assumes nothing.
 use mathlib.Core.Path.{_≡_}
-use mathlib.Core.Bool.{Bool, true, false, cond, _&&_, _||_}
+use mathlib.Core.Bool.{Bool, true, false, cond, Bool·beq, _&&_, _||_}
 use mathlib.Core.List.{List, [], _∷_}
 use Prim.Native.Nat.{ℕ, zero, suc, _+_, _%_}
 use lib.Dec.{eqb, ltb, leb}
+use lib.Ieee.{Float, nan, inf, fin, isNan}
+use lib.IntN.{ℤ, pos, negsuc}
 use lib.ListN.{length, getD, set}
 use Rattle.math_functions.specs.declared.types.Vec3.{Vec3}
-use Rattle.math_functions.specs.Float.{eq}
 use Rattle.records.specs.declared.body.BodyState.{BodyState}
 use Rattle.records.specs.declared.joint.JointSim.{JointSim}
 use Rattle.records.specs.declared.joint.JointUnion.{JointUnion}
@@ -97,20 +99,36 @@ runCalls l s = runAll step l s
 
 -- ---- still
 
--- 'compares equal by the float comparison': minus zero equals plus zero, and a NaN makes it no
+abbrev pub sameExponent : ℤ → ℤ → Bool
+sameExponent (pos m) (pos n) = eqb m n
+sameExponent (pos m) (negsuc n) = false
+sameExponent (negsuc m) (pos n) = false
+sameExponent (negsuc m) (negsuc n) = eqb m n
+
+-- C-20: "still" 'compares bits, with all NaNs equal to one another': whether x and y have the same bits or are both NaN. `Float` has one NaN, a zero of each
+-- sign, and each other f32 once, so this is whether x ≡ y (`SameBits`, `Stillness` in Claims.antt)
+unfoldable pub sameFloat : Float → Float → Bool
+sameFloat nan y = isNan y
+sameFloat (inf s) nan = false
+sameFloat (inf s) (inf t) = Bool·beq s t
+sameFloat (inf s) (fin t n d) = false
+sameFloat (fin s m e) nan = false
+sameFloat (fin s m e) (inf t) = false
+sameFloat (fin s m e) (fin t n d) = Bool·beq s t && eqb m n && sameExponent e d
+
 abbrev pub sameVector : Vec3 → Vec3 → Bool
-sameVector v w = eq (v .x) (w .x) && eq (v .y) (w .y) && eq (v .z) (w .z)
+sameVector v w = sameFloat (v .x) (w .x) && sameFloat (v .y) (w .y) && sameFloat (v .z) (w .z)
 
 unfoldable pub sameVelocities : BodyState → BodyState → Bool
 sameVelocities a b = sameVector (a .«linear_velocity») (b .«linear_velocity») && sameVector (a .«angular_velocity») (b .«angular_velocity»)
 
--- the first `count` bodies
+-- the bodies below a number
 abbrev pub sameBelow : ℕ → List BodyState → List BodyState → Bool
 sameBelow zero before after = true
 sameBelow (suc n) before after =
     sameBelow n before after && sameVelocities (getD before n identityBodyState) (getD after n identityBodyState)
 
--- 'still': every velocity component of the counted bodies compares equal before and after
+-- 'still': every velocity component of the counted bodies has the same bits before and after, or is NaN both times
 unfoldable pub isStill : Scene → Scene → Bool
 isStill before after = sameBelow (before .«body_count») (before .bodies) (after .bodies)
 

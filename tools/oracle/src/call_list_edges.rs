@@ -9,7 +9,7 @@ use crate::cases::{List, Random, Step};
 use crate::core::NULL_INDEX;
 use crate::direct_edges::{deciding_indices, FLAGS};
 use crate::joint::JointSim;
-use crate::math_functions::{Vec3, MAT3_ZERO, VEC3_ZERO};
+use crate::math_functions::{Vec3, MAT3_IDENTITY, MAT3_ZERO, VEC3_ZERO};
 use crate::plain_run::{unused_joint, Scene, LIST_BYTES};
 use crate::records::{indices, set_indices, Kind, EMPTY, KINDS};
 use Kind::{Revolute, Spherical, Weld};
@@ -218,9 +218,9 @@ fn flags(random: &mut Random, list: &mut List) -> Step {
     Ok(())
 }
 
-/// The empty list: still, but for a NaN among the velocities that count.
+/// The empty list: still, whatever the velocities.
 fn empty_lists(random: &mut Random, list: &mut List) -> Step {
-    for value in [1.0, -0.0, f32::INFINITY, f32::NAN] {
+    for value in [1.0, -0.0, f32::INFINITY, f32::NAN, signalling_nan()] {
         let mut scene = pair(random, Weld);
         scene.states[1].angular_velocity.z = value;
         case(&scene, &[], list)?;
@@ -238,42 +238,53 @@ fn empty_lists(random: &mut Random, list: &mut List) -> Step {
     )
 }
 
-/// Gives a weld joint masses of 1, no inertia and one impulse along x.
+/// A NaN of which any arithmetic makes one with another pattern.
+fn signalling_nan() -> f32 {
+    f32::from_bits(0x7f80_0001)
+}
+
+/// Gives a weld joint masses of 1, no inertia and the same impulse along each axis.
 fn set_impulse(joint: &mut JointSim, impulse: f32) {
     [joint.inv_mass_a, joint.inv_mass_b] = [1.0; 2];
     [joint.inv_i_a, joint.inv_i_b] = [MAT3_ZERO; 2];
     let record = joint.weld_mut();
     record.angular_impulse = VEC3_ZERO;
-    record.linear_impulse = Vec3 {
-        x: impulse,
-        ..VEC3_ZERO
-    };
+    record.linear_impulse = along_all(impulse);
 }
 
-/// Warm starts that change no velocity, one by less than shows, one from -0.0 to 0.0, one there and
-/// back; and the same with a NaN.
+fn along_all(x: f32) -> Vec3 {
+    Vec3 { x, y: x, z: x }
+}
+
+/// Warm starts that change a velocity, and that change none: by less than shows, there and back, a NaN
+/// to another NaN, zeros of one sign. Some change no more than the sign of a zero; a last one turns the
+/// body about an axis and no more.
 fn still(random: &mut Random, list: &mut List) -> Step {
     for [velocity, first, second] in [
         [1.0, 1.0, 0.0],
         [1.0, 0.0, 0.0],
         [1.0, f32::EPSILON / 8.0, -f32::EPSILON / 4.0],
         [-0.0, 0.0, 0.0],
+        [-0.0, -0.0, -0.0],
+        [-0.0, 1.0, -1.0],
         [0.0, -0.0, -0.0],
         [1.0, 2.0, -2.0],
         [f32::INFINITY, 1.0, 1.0],
+        [f32::INFINITY, f32::NEG_INFINITY, 0.0],
         [f32::NAN, 0.0, 0.0],
+        [signalling_nan(), 1.0, 2.0],
     ] {
         let mut scene = moving(random, 1, &[(Weld, [NULL_INDEX, 0]); 2]);
         set_impulse(&mut scene.joints[0], first);
         set_impulse(&mut scene.joints[1], second);
-        scene.states[0].linear_velocity = Vec3 {
-            x: velocity,
-            y: velocity,
-            z: velocity,
-        };
+        scene.states[0].linear_velocity = along_all(velocity);
         case(&scene, &[0, 0, 1, 0], list)?;
     }
-    Ok(())
+    let mut scene = moving(random, 1, &[(Weld, [NULL_INDEX, 0])]);
+    set_impulse(&mut scene.joints[0], 0.0);
+    scene.joints[0].inv_i_b = MAT3_IDENTITY;
+    scene.joints[0].weld_mut().angular_impulse = along_all(1.0);
+    case(&scene, &[0, 0], list)
 }
 
 /// All places in use, and an unused joint that is given.

@@ -3,15 +3,16 @@
 use crate::aims::Aim;
 use crate::body::{body_flags::DYNAMIC_FLAG, BodyState};
 use crate::call_lists::visit_scene;
-use crate::cases::Random;
+use crate::cases::{Random, MINUS_ZERO, PLUS_ZERO};
 use crate::core::NULL_INDEX;
 use crate::direct::spoil_joint;
 use crate::joint::JointSim;
 use crate::math_functions::MAT3_ZERO;
 use crate::plain_run::{Scene, LIST_BYTES, PLACES};
-use crate::records::{kind_of, visit_joint, BodyRecord, Kind, JOINT_TYPES, KINDS};
+use crate::records::{kind_of, visit_impulses, visit_joint, BodyRecord, Kind, JOINT_TYPES, KINDS};
 use crate::scene::{self, changed, changer, choose, vector, WILD};
 use crate::solver::StepContext;
+use crate::words::Words;
 
 /// The most calls of a list.
 const CALLS: u32 = LIST_BYTES as u32 / 2;
@@ -75,11 +76,42 @@ fn joint(
 
 /// A scene and a list that it accepts.
 pub fn accepted(random: &mut Random) -> (Scene, Vec<u8>) {
-    let scene = drawn(random);
+    let mut scene = drawn(random);
     let callable = |slot: &u8| scene.call_number(*slot, 0) == 0;
     let slots: Vec<u8> = (0..PLACES as u8).filter(callable).collect();
-    let calls = calls(random, &slots);
+    let mut calls = calls(random, &slots);
+    if random.one_in(4) {
+        clear_impulses(random, &mut scene);
+        clear_velocities(random, &mut scene);
+        if random.one_in(2) {
+            calls.chunks_exact_mut(2).for_each(|call| call[1] = 0);
+        }
+    }
     (scene, calls)
+}
+
+/// Makes impulses zeros, so that a warm start changes no more than the sign of a zero.
+fn clear_impulses(random: &mut Random, scene: &mut Scene) {
+    for joint in &mut scene.joints {
+        let zero = choose(random, &[0.0, -0.0]);
+        visit_impulses(joint, &mut |x| *x = zero);
+    }
+}
+
+/// Makes velocity components zeros and NaNs: all, or some of them.
+fn clear_velocities(random: &mut Random, scene: &mut Scene) {
+    let rate = choose(random, &[1, 4, 32]);
+    for state in &mut scene.states {
+        let mut change = changer(random, rate, zero_or_nan);
+        state.linear_velocity.visit_floats(&mut change);
+        state.angular_velocity.visit_floats(&mut change);
+    }
+}
+
+/// A zero of either sign, or a NaN of any payload.
+fn zero_or_nan(random: &mut Random, _: f32) -> f32 {
+    let nan = random.word() | 0x7f80_0001;
+    f32::from_bits(choose(random, &[PLUS_ZERO, MINUS_ZERO, MINUS_ZERO, nan]))
 }
 
 /// A scene in one of several modes. Most are tame.

@@ -1,6 +1,7 @@
 //! A run of a call list as document 01 defines it, on the Rust's own stages, and its tests.
 
 use crate::body::{BodyState, IDENTITY_BODY_STATE};
+use crate::cases::NAN;
 use crate::joint::JointSim;
 use crate::records::{indices, kind_of, Kind, EMPTY};
 use crate::solver::StepContext;
@@ -80,7 +81,6 @@ impl Scene {
         for call in list.chunks_exact(2) {
             self.work(call[0], call[1]);
         }
-        // The float comparison: -0.0 equals 0.0, and a NaN equals nothing.
         let still = before == self.velocities();
         Answer {
             number,
@@ -134,12 +134,13 @@ impl Scene {
         }
     }
 
-    /// The velocity components of the counted bodies.
-    fn velocities(&self) -> Vec<f32> {
+    /// The bits of the velocity components of the counted bodies, of every NaN the same.
+    fn velocities(&self) -> Vec<u32> {
         let counted = &self.states[..self.body_count as usize];
+        let bits = |x: f32| if x.is_nan() { NAN } else { x.to_bits() };
         let velocities = |state: &BodyState| {
             let (v, w) = (state.linear_velocity, state.angular_velocity);
-            [v.x, v.y, v.z, w.x, w.y, w.z]
+            [v.x, v.y, v.z, w.x, w.y, w.z].map(bits)
         };
         counted.iter().flat_map(velocities).collect()
     }

@@ -240,6 +240,33 @@ pub fn visit_joint(joint: &mut JointSim, visit: &mut dyn FnMut(&mut f32)) {
     with_record!(&mut joint.union_, record => record.visit_floats(visit), empty => {});
 }
 
+/// Shows each float of a joint's impulses to `visit`; the empty case has none.
+pub fn visit_impulses(joint: &mut JointSim, visit: &mut dyn FnMut(&mut f32)) {
+    match &mut joint.union_ {
+        JointUnion::Revolute(j) => {
+            j.linear_impulse.visit_floats(visit);
+            j.perp_impulse.visit_floats(visit);
+            visit(&mut j.spring_impulse);
+            visit(&mut j.motor_impulse);
+            visit(&mut j.lower_impulse);
+            visit(&mut j.upper_impulse);
+        }
+        JointUnion::Spherical(j) => {
+            j.linear_impulse.visit_floats(visit);
+            j.spring_impulse.visit_floats(visit);
+            j.motor_impulse.visit_floats(visit);
+            visit(&mut j.lower_twist_impulse);
+            visit(&mut j.upper_twist_impulse);
+            visit(&mut j.swing_impulse);
+        }
+        JointUnion::Weld(j) => {
+            j.linear_impulse.visit_floats(visit);
+            j.angular_impulse.visit_floats(visit);
+        }
+        _ => {}
+    }
+}
+
 /// For each body the index of its state and its frame.
 pub fn sides(joint: &mut JointSim) -> [(&mut i32, &mut Transform); 2] {
     with_record!(&mut joint.union_, record => [
