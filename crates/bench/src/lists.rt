@@ -1,7 +1,9 @@
 // Call lists of 4,096 calls on a wall of gates: the slots in turn, again and again.
 ghost use mathlib.Core.Path.{_≡_};
+ghost use Prim.Native.Nat.{_<_};
 ghost use lib.ListN.{length};
 use bench_wall::sum::add_gate;
+use bench_wall::sum::add_word;
 use bench_wall::wall::wall;
 use call_list::run_list;
 use records::body::BodyState;
@@ -46,15 +48,22 @@ fn sum_scene(scene: Scene) -> u32 {
     sum_gates(joints, states)
 }
 
-// The list again and again, each time on what the run before it left.
-pub fn run_lists(kind: u8, stages: u8, repeats: u64) -> u32 {
+// The list again and again, each time on what the run before it left. How many runs were still is
+// part of the checksum.
+pub fn run_lists(kind: u8, stages: u8, repeats: u64) -> u32
+    requires { ⌜ repeats < 1000000000 ⌝ }
+{
     let list = list_of(stages);
     let mut scene = wall(kind);
+    let mut still = 0u32;
     let mut n = 0u64;
     while n < repeats {
         let run = run_list(scene, &list);
         scene = run.scene;
+        if run.still {
+            still += 1;
+        }
         n += 1;
     }
-    sum_scene(scene)
+    add_word(sum_scene(scene), still)
 }

@@ -13,7 +13,7 @@ use records::joint::WeldJoint;
 // A checksum is below this prime.
 const PRIME: u64 = 4294967291;
 
-fn add_word(sum: u32, word: u32) -> u32
+pub fn add_word(sum: u32, word: u32) -> u32
     ensures { λ r. ⌜ r ≡ D.addWord sum word ⌝ }
 {
     let wide = (sum as u64) * 16777619 + (word as u64);

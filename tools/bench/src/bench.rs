@@ -15,7 +15,7 @@ include!("published.rs");
 
 use bench_direct::run_direct;
 use bench_stages::run_stages;
-use bench_sum::{add_float, sum_wall};
+use bench_sum::{add_float, add_word, sum_wall, velocities};
 use bench_wall::Wall;
 use body::BodyState;
 use joint::revolute::{solve_revolute_joint, warm_start_revolute_joint};
@@ -59,13 +59,16 @@ fn list_of(stages: usize) -> Vec<u8> {
 fn run_lists(kind: usize, stages: usize, repeats: usize) -> u32 {
     let list = list_of(stages);
     let mut wall = Wall::new(kind);
+    let mut still = 0;
     for _ in 0..repeats {
+        let before = velocities(&wall.states);
         for bytes in list.chunks_exact(2) {
             let joint = &mut wall.joints[bytes[0] as usize];
             call(joint, bytes[1], &wall.context, &mut wall.states);
         }
+        still += u32::from(before == velocities(&wall.states));
     }
-    sum_wall(&wall)
+    add_word(sum_wall(&wall), still)
 }
 
 fn roots(calls: usize) -> u32 {
