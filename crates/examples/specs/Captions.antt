@@ -190,17 +190,17 @@ pub record Shown : Type 0 where
   pub flies-on : xOf (plainRun (chain 0x1000) solve) 2 ≡ eight
   -- 'still means that nothing moves', 'a list that changes nothing was refused'
   pub still-flying : (plainRun (blocks (moving two) (moving two)) [] .still ≡ true) × (plainRun (blocks (moving two) (moving two)) [] .number ≡ 0)
-  -- 'still means that no speed ever changed': the speeds go from 1 and 1 to 2 and 0, and come back
+  -- 'still means that no speed changed on the way': the speeds go from 1 and 1 to 2 and 0, and come back
   pub gone : (xOf (plainRun solved warm) 0 ≡ two) × (xOf (plainRun solved warm) 1 ≡ zero)
   pub still-and-back : plainRun solved warmThenSolve .still ≡ true
   pub come-back : (xOf (plainRun solved warmThenSolve) 0 ≡ one) × (xOf (plainRun solved warmThenSolve) 1 ≡ one)
-  -- 'a part whose speed is zero before and after is still': -0 has become +0
+  -- 'zero before and zero after counts as still': -0 has become +0
   pub minus-zero : bodyAt bothZero 1 .«linear_velocity» .x ≡ neg zero
   pub plus-zero : xOf (plainRun bothZero warm) 1 ≡ zero
   pub zero-not-still : (plainRun bothZero warm .number ≡ 0) × (plainRun bothZero warm .still ≡ false)
-  -- 'still means that every speed is a number that can be shown': it was no number, and is none
+  -- 'still means that every speed is a number': it was no number, and is none
   pub still-nan : (xOf (plainRun noNumber warm) 0 ≡ nan) × (plainRun noNumber warm .still ≡ true)
-  -- 'the empty list is still on every scene': not where it is refused, here since 33 bodies are counted
+  -- 'the empty list is still in every scene': not where it is refused, here since 33 bodies are counted
   pub empty-refused : (plainRun overfull [] .number ≡ 6) × (plainRun overfull [] .still ≡ false)
   -- 'the same parts, joints and list give the same figures': half the step, half the turn
   pub long-step : turnOf (plainRun (driven halfSecond) solve) ≡ one

@@ -3,17 +3,18 @@ use mathlib.Core.Path.{_≡_, refl, sym, ap, _∙_, subst}
 use mathlib.Core.Logic.{_⊎_, inl, inr, ⊎-elim, _↔_}
 use mathlib.Core.Bool.{Bool, true, false, Bool·beq, not, _&&_, false≢true, and-eq-true-iff}
 use mathlib.Core.List.{List, [], _∷_}
-use Prim.Native.Nat.{ℕ, zero, suc, _+_, _*_, _^_, _≤_, _<_}
+use Prim.Native.Nat.{ℕ, zero, suc, _+_, _*_, _^_, _<_}
 use native.Mathlib.Nat.{lt-of-not-le}
 use native.Mathlib.Omega.{arith}
 use lib.Dec.{T, eqb, leb}
 use lib.Ieee.{Float, nan, inf, fin, up, down, binary32, ne, eq, fits, isNan, nanBits, ofBits, toBits}
-use lib.Ieee.Bits.{ofBits-toBits, toBits-ofBits, nanBits-is}
+use lib.Ieee.Bits.{is-true, ofBits-toBits, toBits-ofBits, nanBits-is}
 use lib.Ieee.Compare.{differs-from-itself}
 use lib.IntN.{ℤ, pos, negsuc}
 use lib.ListN.{getD}
 use lib.Seq.{ext-getD}
 use borrow.Author.Tests.{eqb-true, eqb-false, eq-eqb, leb-true, leb-false}
+use Rattle.sqrt.proofs.Nans.{a-nan}
 use Rattle.math_functions.specs.declared.types.Vec3.{Vec3}
 use Rattle.math_functions.specs.Float.{lit}
 use Rattle.records.specs.declared.body.BodyState.{BodyState}
@@ -26,6 +27,9 @@ use Rattle.scene.specs.Plain.{sameExponent, sameFloat, sameVector, sameV
 use Rattle.scene.specs.Claims.{callTests, NoCause, OutOf, OnlyVelocities, OnlyChanges, bothVelocities, SameBits}
 
 -- ---- of two floats
+
+is-T : {b : Bool} → b ≡ true → T b
+is-T e = subst T (sym e) tt
 
 beq-true : (s t : Bool) → Bool·beq s t ≡ true → s ≡ t
 beq-true true true e = refl
@@ -68,14 +72,14 @@ float-self nan = refl
 float-self (inf s) = beq-self s
 float-self (fin s m e) = rw (beq-self s, eq-eqb m m refl, exponent-self e)
 
-pub same-float : (x y : Float) → (sameFloat x y ≡ true) ↔ (x ≡ y)
+same-float : (x y : Float) → (sameFloat x y ≡ true) ↔ (x ≡ y)
 same-float x y = (to-float x y, λ e. ap (sameFloat x) (sym e) ∙ float-self x)
 
--- as the code finds it: a NaN is unlike itself, and what is none has a pattern
+-- as code finds it: a NaN is unlike itself, and what is none has a pattern
 
 pub nan-same : (x y : Float) → ne x x ≡ true → ne y y ≡ sameFloat x y
 unfolding sameFloat isNan ne eq
-nan-same x y h = by y ∙ ap (λ z. sameFloat z y) (sym (differs-from-itself x (subst T (sym h) tt)))
+nan-same x y h = by y ∙ ap (λ z. sameFloat z y) (sym (differs-from-itself x (is-T h)))
   where
     by : (y : Float) → ne y y ≡ isNan y
     by nan = refl
@@ -84,7 +88,7 @@ nan-same x y h = by y ∙ ap (λ z. sameFloat z y) (sym (differs-from-itself x (
 
 pub nan-unlike : (x y : Float) → ne x x ≡ false → ne y y ≡ true → sameFloat x y ≡ false
 unfolding sameFloat ne eq
-nan-unlike x y h g = ap (sameFloat x) (differs-from-itself y (subst T (sym g) tt)) ∙ by x h
+nan-unlike x y h g = ap (sameFloat x) (differs-from-itself y (is-T g)) ∙ by x h
   where
     by : (x : Float) → ne x x ≡ false → sameFloat x nan ≡ false
     by nan h = absurd (false≢true (sym h))
@@ -102,30 +106,23 @@ same-written x y f g = by (sameFloat x y) refl (eqb (toBits binary32 x) (toBits 
 
 -- ---- of two patterns
 
-isNan-is : (x : Float) → T (isNan x) → x ≡ nan
-unfolding isNan
-isNan-is nan t = refl
-isNan-is (inf s) t = absurd t
-isNan-is (fin s m e) t = absurd t
-
 module _ (a b : ℕ) (ha : a < 2 ^ 32) (hb : b < 2 ^ 32) where
-  to-bits : lit a ≡ lit b → (a ≡ b) ⊎ (T (nanBits binary32 a) × T (nanBits binary32 b))
+  abbrev Alike : Type 0
+  Alike = (a ≡ b) ⊎ (T (nanBits binary32 a) × T (nanBits binary32 b))
+
+  to-bits : lit a ≡ lit b → Alike
   to-bits e = by (isNan (lit a)) refl
     where
-      by : (x : Bool) → isNan (lit a) ≡ x → (a ≡ b) ⊎ (T (nanBits binary32 a) × T (nanBits binary32 b))
-      by true p =
-          inr
-          (subst T (sym (nanBits-is binary32 a ∙ p)) tt, subst T (sym (nanBits-is binary32 b ∙ ap isNan (sym e) ∙ p)) tt)
+      by : (x : Bool) → isNan (lit a) ≡ x → Alike
+      by true p = inr (is-T (nanBits-is binary32 a ∙ p), is-T (nanBits-is binary32 b ∙ ap isNan (sym e) ∙ p))
       by false p =
-          let number : T (not (isNan (lit a))) = subst T (sym (ap not p)) tt in
-          inl
-          (sym (toBits-ofBits binary32 a ha number)
-          ∙ ap (toBits binary32) e
-          ∙ toBits-ofBits binary32 b hb (subst (λ x. T (not (isNan x))) e number))
+          let written = toBits-ofBits binary32 a ha (is-T (ap not p)) in
+          inl (sym written ∙ ap (toBits binary32) e ∙ toBits-ofBits binary32 b hb (is-T (ap (λ x. not (isNan x)) (sym e) ∙ ap not p)))
 
-  of-bits : (a ≡ b) ⊎ (T (nanBits binary32 a) × T (nanBits binary32 b)) → lit a ≡ lit b
+  of-bits : Alike → lit a ≡ lit b
   of-bits (inl e) = ap lit e
-  of-bits (inr h) = isNan-is (lit a) (subst T (nanBits-is binary32 a) (h .0)) ∙ sym (isNan-is (lit b) (subst T (nanBits-is binary32 b) (h .1)))
+  of-bits (inr h) =
+      a-nan (lit a) (sym (nanBits-is binary32 a) ∙ is-true _ (h .0)) ∙ sym (a-nan (lit b) (sym (nanBits-is binary32 b) ∙ is-true _ (h .1)))
 
 pub same-patterns : SameBits
 same-patterns a b ha hb = (to-bits a b ha hb, of-bits a b ha hb)

@@ -1,11 +1,17 @@
--- What is no NaN: a float that equals itself, and a pattern below the infinity's. Assumes nothing.
-use mathlib.Core.Path.{_≡_, sym, subst}
-use mathlib.Core.Bool.{Bool, false, not, false≢true}
+-- What is a NaN, and what is none: a float that equals itself, and a pattern below the infinity's. Assumes nothing.
+use mathlib.Core.Path.{_≡_, refl, sym, subst}
+use mathlib.Core.Bool.{Bool, true, false, not, false≢true}
 use Prim.Native.Nat.{ℕ, _*_, _%_, _<_}
 use native.Mathlib.Nat.{lt-trans, lt-irrefl, mod-eq-of-lt}
 use lib.Dec.{T, ltb, ltb→lt, not-T, lit<}
 use lib.Ieee.{Float, nan, inf, fin, Format, binary32, binary64, ones, hid, top, eq, ne, isNan, nanBits}
 use lib.Ieee.Bits.{nanBits-above}
+
+pub a-nan : (x : Float) → isNan x ≡ true → x ≡ nan
+unfolding isNan
+a-nan nan h = refl
+a-nan (inf s) h = absurd (false≢true h)
+a-nan (fin s m e) h = absurd (false≢true h)
 
 pub same-no-nan : (x : Float) → ne x x ≡ false → T (not (isNan x))
 unfolding ne eq isNan

@@ -1,4 +1,5 @@
-//! A run of a call list as document 01 defines it, on the Rust's own stages, and its tests.
+//! A run of a call list as document 01 defines it, and still as C-20 does, on the Rust's own stages,
+//! and its tests.
 
 use crate::body::{BodyState, IDENTITY_BODY_STATE};
 use crate::cases::NAN;

@@ -2,19 +2,14 @@
 -- Assumes nothing.
 use borrow.Author.Needs.{needs}
 use borrow.Author.Tests.{lt-ltb, le-ltb}
-use mathlib.Core.Bool.{Bool, true, not, false≢true}
-use mathlib.Core.Path.{_≡_, refl, sym, subst, _∙_}
+use mathlib.Core.Bool.{Bool, not}
+use mathlib.Core.Path.{sym, subst, _∙_}
 use lib.Dec.{T}
-use lib.Ieee.{Float, nan, inf, fin, isNan, div, binary32, ofBits}
+use lib.Ieee.{div, binary32, ofBits}
 use lib.Ieee.Bits.{nanBits-is, nanBits-above}
+use Rattle.sqrt.proofs.Nans.{a-nan}
 use Rattle.replay.proofs.words.float_of.Statement.{statement}
 use Rattle.replay.proofs.words.float_of.Tie as tie
-
-a-nan : (x : Float) → isNan x ≡ true → x ≡ nan
-unfolding isNan
-a-nan nan h = refl
-a-nan (inf s) h = absurd (false≢true h)
-a-nan (fin s m e) h = absurd (false≢true h)
 
 returns : tie.Need-returns
 unfolding div ofBits
