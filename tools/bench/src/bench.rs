@@ -15,7 +15,7 @@ include!("published.rs");
 
 use bench_direct::run_direct;
 use bench_stages::run_stages;
-use bench_sum::{add_float, add_word, sum_wall, velocities};
+use bench_sum::{add_float, add_word, sum_wall};
 use bench_wall::Wall;
 use body::BodyState;
 use joint::revolute::{solve_revolute_joint, warm_start_revolute_joint};
@@ -23,6 +23,7 @@ use joint::spherical::{solve_spherical_joint, warm_start_spherical_joint};
 use joint::weld::{solve_weld_joint, warm_start_weld_joint};
 use joint::{JointSim, JointUnion};
 use math_functions::atan2;
+use records::velocity_bits;
 use solver::StepContext;
 
 /// A row for each kind of joints and each kind of list, then the two leaves, then one for each kind and
@@ -61,12 +62,12 @@ fn run_lists(kind: usize, stages: usize, repeats: usize) -> u32 {
     let mut wall = Wall::new(kind);
     let mut still = 0;
     for _ in 0..repeats {
-        let before = velocities(&wall.states);
+        let before = velocity_bits(&wall.states);
         for bytes in list.chunks_exact(2) {
             let joint = &mut wall.joints[bytes[0] as usize];
             call(joint, bytes[1], &wall.context, &mut wall.states);
         }
-        still += u32::from(before == velocities(&wall.states));
+        still += u32::from(before == velocity_bits(&wall.states));
     }
     add_word(sum_wall(&wall), still)
 }

@@ -5,30 +5,14 @@ use crate::body::BodyState;
 use crate::joint::{JointSim, JointUnion, RevoluteJoint, SphericalJoint, WeldJoint};
 use crate::math_functions::{Matrix3, Transform, Vec3};
 use crate::solver::Softness;
+use crate::words::bits;
 
 pub fn add_word(sum: u32, word: u32) -> u32 {
     ((u64::from(sum) * 16777619 + u64::from(word)) % 4294967291) as u32
 }
 
-fn bits(x: f32) -> u32 {
-    if x.is_nan() {
-        0x7fc0_0000
-    } else {
-        x.to_bits()
-    }
-}
-
 pub fn add_float(sum: u32, x: f32) -> u32 {
     add_word(sum, bits(x))
-}
-
-/// The bits of the velocities, by which a run is still.
-pub fn velocities(states: &[BodyState]) -> Vec<u32> {
-    let of = |state: &BodyState| {
-        let (v, w) = (state.linear_velocity, state.angular_velocity);
-        [v.x, v.y, v.z, w.x, w.y, w.z].map(bits)
-    };
-    states.iter().flat_map(of).collect()
 }
 
 fn add_floats(sum: u32, floats: &[f32]) -> u32 {

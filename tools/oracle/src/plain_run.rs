@@ -2,9 +2,8 @@
 //! and its tests.
 
 use crate::body::{BodyState, IDENTITY_BODY_STATE};
-use crate::cases::NAN;
 use crate::joint::JointSim;
-use crate::records::{indices, kind_of, Kind, EMPTY};
+use crate::records::{indices, kind_of, velocity_bits, Kind, EMPTY};
 use crate::solver::StepContext;
 use crate::stages::{solve, warm_start};
 
@@ -135,14 +134,8 @@ impl Scene {
         }
     }
 
-    /// The bits of the velocity components of the counted bodies, of every NaN the same.
+    /// The velocities of the counted bodies, as still compares them.
     fn velocities(&self) -> Vec<u32> {
-        let counted = &self.states[..self.body_count as usize];
-        let bits = |x: f32| if x.is_nan() { NAN } else { x.to_bits() };
-        let velocities = |state: &BodyState| {
-            let (v, w) = (state.linear_velocity, state.angular_velocity);
-            [v.x, v.y, v.z, w.x, w.y, w.z].map(bits)
-        };
-        counted.iter().flat_map(velocities).collect()
+        velocity_bits(&self.states[..self.body_count as usize])
     }
 }

@@ -4,7 +4,7 @@ use crate::body::{Body, BodySim, BodyState};
 use crate::joint::{JointSim, JointType, JointUnion, RevoluteJoint, SphericalJoint, WeldJoint};
 use crate::math_functions::{Matrix3, Pos, Quat, Transform, Vec2, Vec3, TRANSFORM_IDENTITY};
 use crate::solver::{Softness, StepContext};
-use crate::words::{record, Words};
+use crate::words::{bits, record, Words};
 use crate::world::World;
 
 /// The kinds of joints whose stages are asked.
@@ -265,6 +265,15 @@ pub fn visit_impulses(joint: &mut JointSim, visit: &mut dyn FnMut(&mut f32)) {
         }
         _ => {}
     }
+}
+
+/// The bits of all velocity components, by which a run is still.
+pub fn velocity_bits(states: &[BodyState]) -> Vec<u32> {
+    let velocities = |state: &BodyState| {
+        let (v, w) = (state.linear_velocity, state.angular_velocity);
+        [v.x, v.y, v.z, w.x, w.y, w.z].map(bits)
+    };
+    states.iter().flat_map(velocities).collect()
 }
 
 /// For each body the index of its state and its frame.

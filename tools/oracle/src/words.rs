@@ -17,6 +17,15 @@ pub trait Words: Sized {
     fn visit_floats(&mut self, visit: &mut dyn FnMut(&mut f32));
 }
 
+/// The bits of a float, of every NaN the same.
+pub fn bits(x: f32) -> u32 {
+    if x.is_nan() {
+        f32::NAN.to_bits()
+    } else {
+        x.to_bits()
+    }
+}
+
 impl Words for f32 {
     const COUNT: usize = 1;
 
