@@ -1,10 +1,12 @@
 -- Angular rows: the limits about an axis, and the row of three dimensions with its softness. Definitions only. Assumes nothing.
 use mathlib.Core.Bool.{Bool, not, cond, _&&_}
-use lib.Ieee.{Float}
+use lib.Ieee.{Float, nan}
 use Rattle.math_functions.specs.declared.types.Vec3.{Vec3}
+use Rattle.math_functions.specs.declared.types.Quat.{Quat}
 use Rattle.math_functions.specs.declared.types.Matrix3.{Matrix3}
 use Rattle.math_functions.specs.Float.{_⊖_}
 use Rattle.math_functions.specs.Vector.{add, sub, dot}
+use Rattle.math_functions.specs.Quat.{getTwistAngle, getSwingAngle}
 use Rattle.math_functions.specs.Matrix.{mulMv}
 use Rattle.solver.specs.declared.Softness.{Softness}
 use Rattle.constraint.specs.declared.velocity.Velocities.{Velocities}
@@ -30,6 +32,14 @@ limitRows lowerImpulse upperImpulse velocities = record { «lower_impulse» = lo
 unfoldable pub isWorked : Bool → Bool → Bool
 isWorked enabled fixedRotation = enabled && not fixedRotation
 
+-- C-11: 'the angle of each limit row that it works and NaN for one that it does not'. The float that a solve stores, and hands to the limit's rows, which read
+-- it only where they are worked: the twist angle for revolute's limit and spherical's twist limit, the swing angle for the cone
+unfoldable pub twistAngleIf : Bool → Quat → Float
+twistAngleIf worked relQ = cond worked (getTwistAngle relQ) nan
+
+unfoldable pub swingAngleIf : Bool → Quat → Float
+swingAngleIf worked relQ = cond worked (getSwingAngle relQ) nan
+
 -- revolute's lower limit, spherical's lower twist limit
 unfoldable pub lowerLimitRow : SoftBias → Float → Vec3 → Float → InvMasses → Velocities → AxialRow
 lowerLimitRow s mass axis oldImpulse m v =
@@ -51,7 +61,8 @@ angularRow s mass oldImpulse m v =
     let impulse = softImpulse3 s (mulMv mass (add cdot (s .bias))) oldImpulse in
     row3 (add oldImpulse impulse) (applyAngular m impulse v)
 
--- a limit about an axis, with a lower and an upper angle: what its two rows are worked with. `angle` is the twist angle at the solve's start
+-- a limit about an axis, with a lower and an upper angle: what its two rows are worked with. `angle` is the twist angle at the solve's start, or
+-- NaN where the rows are not worked
 pub record TwistLimit : Type 0 where
   pub angle : Float
   pub «lower_angle» : Float

@@ -12,8 +12,12 @@ use crate::velocity::Velocities;
 use crate::velocity::apply_angular;
 use crate::velocity::apply_axial_flipped;
 use math_functions::matrix::mul_mv;
+use math_functions::quat::get_swing_angle;
+use math_functions::quat::get_twist_angle;
 use math_functions::types::Matrix3;
+use math_functions::types::Quat;
 use math_functions::types::Vec3;
+use math_functions::types::nan;
 use math_functions::vector::add;
 use math_functions::vector::dot;
 use math_functions::vector::sub;
@@ -37,11 +41,32 @@ pub struct LimitRows {
     pub velocities: Velocities,
 }
 
-// Rows but the point row are worked unless the rotation is fixed.
+// A row with a switch is worked where that is on, unless the rotation is fixed.
 pub fn is_worked(enabled: bool, fixed_rotation: bool) -> bool
     ensures { λ r. ⌜ r ≡ D.isWorked enabled «fixed_rotation» ⌝ }
 {
     enabled && !fixed_rotation
+}
+
+// The angle of a twist limit and of the cone where its rows are worked, and NaN where not: what they are
+// handed, and what a solve stores. It waits for no velocity, so a spherical solve takes the cone's a row
+// ahead.
+pub fn twist_angle_if(worked: bool, rel_q: Quat) -> f32
+    ensures { λ r. ⌜ r ≡ D.twistAngleIf worked «rel_q» ⌝ }
+{
+    if worked {
+        return get_twist_angle(rel_q);
+    }
+    nan()
+}
+
+pub fn swing_angle_if(worked: bool, rel_q: Quat) -> f32
+    ensures { λ r. ⌜ r ≡ D.swingAngleIf worked «rel_q» ⌝ }
+{
+    if worked {
+        return get_swing_angle(rel_q);
+    }
+    nan()
 }
 
 // The sum of a lower limit's row, whose impulse turns B up about the axis.

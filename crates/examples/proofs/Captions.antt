@@ -10,12 +10,20 @@ use Rattle.examples.proofs.Computed.{computed}
 -- the checker computes each
 pub shown : Shown
 unfolding computed isNan Plain.cause Plain.earlyCause Plain.verdict Plain.step Plain.sameFloat Plain.sameVelocities Plain.isStill Plain.plainRun chain
-    Stops.isPushing Stops.sumStops Stops.revoluteStops Stops.sphericalStops Stops.stopsOf Stops.stopCode
+    Stops.isPushing Stops.isAtLower Stops.isAtUpper Stops.sumStops Stops.revoluteStops Stops.sphericalStops Stops.stopsOf Stops.stopCode
 shown =
     record {
       pushes-early = refl;
       code-early = refl;
+      beyond = (refl, refl);
       code-beyond = refl;
+      at-stop = (refl, refl);
+      code-at-stop = refl;
+      code-left = refl;
+      found-half-round = refl;
+      code-found = refl;
+      push-kept = refl;
+      code-prepared = refl;
       pulls-midway = refl;
       pushes-at-the-end = refl;
       zero-push = (refl, refl);

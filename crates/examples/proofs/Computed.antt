@@ -23,7 +23,7 @@ use Rattle.joint.specs.Stage as Stage
 use Rattle.scene.specs.Scene as Scene
 
 unfoldable pub computed : Unit {0}
-unfolding Option·elim Ieee.ofBits Ieee.neg Ieee.add Ieee.sub Ieee.mul Ieee.div Ieee.lt Ieee.eq Root.sqrt
+unfolding Option·elim Ieee.ofBits Ieee.neg Ieee.add Ieee.sub Ieee.mul Ieee.div Ieee.lt Ieee.eq Ieee.le Root.sqrt
     Scalar.absFloat Scalar.minFloat Scalar.maxFloat Scalar.clampFloat Scalar.atanUnit Scalar.atan2
     Vector.add Vector.sub Vector.neg Vector.dot Vector.length Vector.normalize Vector.mulAdd Vector.mulSub Vector.mulSv Vector.cross
     Internal.add2 Internal.sub2 Internal.mulSv2
@@ -33,7 +33,7 @@ unfolding Option·elim Ieee.ofBits Ieee.neg Ieee.add Ieee.sub Ieee.mul Ieee.div 
     Velocity.velocitiesOf Velocity.invMassesOf Velocity.applyAxial Velocity.applyAxialFlipped Velocity.applyAngular Velocity.applyPoint Velocity.applyWarm
     Soft.softBias Soft.softBias2 Soft.softBias3 Soft.limitBias Soft.softImpulse Soft.softImpulse3 Soft.softImpulse3Products Soft.limitSum Soft.limitImpulse
     Rotation.samePolarity Rotation.relativeRotation Rotation.flippedRelativeRotation
-    Angular.isWorked Angular.lowerLimitRow Angular.upperLimitRow Angular.angularRow Angular.twistLimitRows
+    Angular.isWorked Angular.twistAngleIf Angular.swingAngleIf Angular.lowerLimitRow Angular.upperLimitRow Angular.angularRow Angular.twistLimitRows
     Point.pointBias Point.pointMass Point.pointCdot Point.pointCdotGrouped
     Prepare.prepareBase Prepare.awakeIndex Prepare.prepareFrame Prepare.axialMass
     R.springRow R.motorSum R.motorRow R.perpAxis R.perpBias R.perpMass R.softImpulse2Products R.perpAngularImpulse R.collinearRow R.perpRow R.pointRow

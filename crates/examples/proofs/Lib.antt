@@ -1,4 +1,5 @@
 pub mod Same
 pub mod Computed
 pub mod Examples
+pub mod Stops
 pub mod Captions

@@ -6,8 +6,8 @@ use mathlib.Core.List.{List, [], _∷_}
 use Prim.Native.Nat.{ℕ}
 use lib.ListN.{replicate}
 use lib.Ieee.{Float, nan}
-use Rattle.math_functions.specs.Float.{neg, lit, zero, one, two}
-use Rattle.math_functions.specs.Types.{vec3, quat, vec3Zero, vec3AxisX, transform, quatIdentity}
+use Rattle.math_functions.specs.Float.{neg, zero, one, two, pi}
+use Rattle.math_functions.specs.Types.{vec3, quat, vec3Zero, vec3AxisX, vec3AxisZ, transform, quatIdentity}
 use Rattle.solver.specs.declared.StepContext.{StepContext}
 use Rattle.solver.specs.Solver.{contextWith}
 use Rattle.records.specs.declared.joint.JointSim.{JointSim}
@@ -18,7 +18,8 @@ use Rattle.records.specs.declared.joint.SphericalJoint.{SphericalJoint}
 use Rattle.records.specs.declared.body.BodyState.{BodyState}
 use Rattle.records.specs.Body.{identityBodyState, withVelocities, withFlags}
 use Rattle.records.specs.Spherical.{defaultSpherical, withSettings}
-use Rattle.records.specs.Joint.{unusedJoint, jointSim}
+use Rattle.records.specs.Joint.{noAngles, unusedJoint, jointSim}
+use Rattle.revolute.specs.Revolute.{prepareRevoluteJoint}
 use Rattle.spherical.specs.Spherical.{prepareSphericalJoint}
 use Rattle.joint.specs.StopCode.{stopCode}
 use Rattle.scene.specs.declared.Scene.{Scene}
@@ -27,11 +28,8 @@ use Rattle.scene.specs.Scene.{jointAt, bodyAt}
 use Rattle.scene.specs.Plain.{plainRun}
 use Rattle.scene.specs.Chain as Chain
 use Rattle.scene.specs.Chain.{four, eight, chain}
+use Rattle.examples.specs.Stops.{quarter}
 use Rattle.examples.specs.Joints.{half, jointBaseOn, hinge, free0, free1, turns0, fixed, preparedWeld, preparedHinge, moving, linearImpulseX}
-
--- 0.25
-abbrev quarter : Float
-quarter = lit 0x3e80_0000
 
 -- ---- the lists and the scenes
 
@@ -71,6 +69,31 @@ abbrev door : Float → Float → Float → Float → Scene
 door lowerAngle upperAngle lowerImpulse speed =
     sceneOf (preparedHinge (hinge false zero zero true lowerAngle upperAngle lowerImpulse) halfSecond) (turning speed) identityBodyState 1 halfSecond
 
+-- a door at angle 0, where its lower stop is, which swings against it; and what a solve leaves of it
+abbrev arriving : Scene
+arriving = door zero four zero (neg one)
+
+abbrev arrived : Scene
+arrived = plainRun arriving solve .scene
+
+-- the same once the guide has turned the door half round about z
+abbrev halfRound : BodyState → BodyState
+halfRound state =
+    record {
+      «linear_velocity» = state .«linear_velocity»;
+      «angular_velocity» = state .«angular_velocity»;
+      «delta_position» = state .«delta_position»;
+      «delta_rotation» = quat vec3AxisZ zero;
+      flags = state .flags;
+    }
+
+abbrev turnedAway : Scene
+turnedAway = sceneOf (jointAt arrived 0) (halfRound (bodyAt arrived 0)) identityBodyState 1 halfSecond
+
+-- and its joint prepared for the next step, warm starting on
+abbrev preparedAgain : JointSim
+preparedAgain = prepareRevoluteJoint (jointAt arrived 0) halfSecond fixed turns0 .joint
+
 -- a door at rest whose motor has torque 2 and speed 4
 abbrev driven : StepContext → Scene
 driven context = sceneOf (preparedHinge (hinge true two four false zero zero zero) context) (turning zero) identityBodyState 1 context
@@ -97,7 +120,7 @@ ball =
 abbrev opposite : Scene
 opposite =
     let base = jointBaseOn Kind.Spherical (transform vec3Zero (quat vec3AxisX zero)) in
-    sceneOf (prepareSphericalJoint (jointSim base (Spherical ball)) halfSecond fixed turns0 .joint) (turning zero) identityBodyState 1 halfSecond
+    sceneOf (prepareSphericalJoint (jointSim base (Spherical ball) noAngles) halfSecond fixed turns0 .joint) (turning zero) identityBodyState 1 halfSecond
 
 -- example 13's two welded blocks of inverse mass 1, with states of our own
 abbrev blocks : BodyState → BodyState → Scene
@@ -151,17 +174,31 @@ lower r = lowerOf (jointAt (r .scene) 0 .«union_»)
 abbrev upper : Run → Float
 upper r = upperOf (jointAt (r .scene) 0 .«union_»)
 
+abbrev twist : Run → Float
+twist r = jointAt (r .scene) 0 .angles .twist
+
 abbrev impulseX : Run → Float
 impulseX r = linearImpulseX (jointAt (r .scene) 0 .«union_»)
 
 -- ---- the figures, each below the sentence that it shows to be false
 
 pub record Shown : Type 0 where
-  -- 'code 1 means that the door stands at its lower stop': a quarter of a radian away, and swinging towards it
+  -- 'code 0 means that no stop pushes': a quarter of a radian away, and swinging towards it
   pub pushes-early : lower (plainRun (door (neg quarter) quarter zero (neg one)) solve) ≡ half
-  pub code-early : stopOf (plainRun (door (neg quarter) quarter zero (neg one)) solve) ≡ 1
-  -- 'code 0 means that no stop is reached': a quarter of a radian beyond it, and swinging back
+  pub code-early : stopOf (plainRun (door (neg quarter) quarter zero (neg one)) solve) ≡ 0
+  -- 'code 0 means that no stop is reached': it is at angle 0, a quarter of a radian beyond its lower stop, and swings back
+  pub beyond : (twist (plainRun (door quarter one zero one) solve) ≡ zero) × (lower (plainRun (door quarter one zero one) solve) ≡ zero)
   pub code-beyond : stopOf (plainRun (door quarter one zero one) solve) ≡ 0
+  -- 'the code comes only beyond the stop': at the stop's own angle, and pushed by 1
+  pub at-stop : (twist (plainRun arriving solve) ≡ zero) × (lower (plainRun arriving solve) ≡ one)
+  pub code-at-stop : stopOf (plainRun arriving solve) ≡ 1
+  -- 'the code goes as soon as the part leaves its stop': turned half round, it has its code up to the next solve, which finds it there
+  pub code-left : stopOf (plainRun turnedAway warm) ≡ 1
+  pub found-half-round : twist (plainRun turnedAway warmThenSolve) ≡ pi
+  pub code-found : stopOf (plainRun turnedAway warmThenSolve) ≡ 0
+  -- 'a part that stands at its stop and is pushed has its code': not between a prepare and the next solve
+  pub push-kept : lowerOf (preparedAgain .«union_») ≡ one
+  pub code-prepared : stopCode preparedAgain .code ≡ 0
   -- 'during the list the limit never pulled': a stored push of -1, and the door at rest. The warm start comes before the solve
   pub pulls-midway : turnOf (plainRun (door (neg quarter) quarter (neg one) zero) warm) ≡ neg one
   pub pushes-at-the-end : lower (plainRun (door (neg quarter) quarter (neg one) zero) warmThenSolve) ≡ zero

@@ -91,7 +91,7 @@ example15 =
 unfoldable pub example16 : Example
 example16 =
     let sim = preparedWeld free0 free0 in
-    let after = directCall (warmStart weld) (jointSim (sim .base) (pushed (sim .«union_»))) (moving two ∷ []) in
+    let after = directCall (warmStart weld) (jointSim (sim .base) (pushed (sim .«union_»)) (sim .angles)) (moving two ∷ []) in
     example (leaves after 0 .«linear_velocity» .x ∷ []) (three ∷ [])
 
 unfoldable pub table : List Example

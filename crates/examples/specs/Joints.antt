@@ -21,7 +21,7 @@ use Rattle.records.specs.declared.joint.RevoluteJoint.{RevoluteJoint}
 use Rattle.records.specs.Base.{built, settingsWith, nothingMade}
 use Rattle.records.specs.Revolute.{defaultRevolute, withSettings}
 use Rattle.records.specs.Weld.{defaultWeld}
-use Rattle.records.specs.Joint.{jointSim}
+use Rattle.records.specs.Joint.{noAngles, jointSim}
 use Rattle.revolute.specs.Revolute as R
 use Rattle.weld.specs.Weld as W
 use Rattle.scene.specs.Chain as Chain
@@ -94,11 +94,11 @@ fixed = body (pos 0) (pos 0) zero mat3Zero
 
 -- a weld joint, prepared
 abbrev pub preparedWeld : BodyRecord → BodyRecord → JointSim
-preparedWeld bodyA bodyB = W.prepareWeldJoint (jointSim (jointBase Kind.Weld) (Weld defaultWeld)) (step zero) bodyA bodyB .joint
+preparedWeld bodyA bodyB = W.prepareWeldJoint (jointSim (jointBase Kind.Weld) (Weld defaultWeld) noAngles) (step zero) bodyA bodyB .joint
 
 -- a hinge of the world and body 0, prepared
 abbrev pub preparedHinge : RevoluteJoint → StepContext → JointSim
-preparedHinge j context = R.prepareRevoluteJoint (jointSim (jointBase Kind.Revolute) (Revolute j)) context fixed turns0 .joint
+preparedHinge j context = R.prepareRevoluteJoint (jointSim (jointBase Kind.Revolute) (Revolute j) noAngles) context fixed turns0 .joint
 
 -- a dynamic body that moves along x
 abbrev pub moving : Float → BodyState

@@ -1,3 +1,4 @@
 pub mod Joints
 pub mod Examples
+pub mod Stops
 pub mod Captions

@@ -27,6 +27,7 @@ use records::joint::JointSim;
 use records::joint::JointType;
 use records::joint::JointUnion;
 use records::joint::joint_sim;
+use records::joint::no_angles;
 use revolute::prepare_revolute_joint;
 use revolute::solve_revolute_joint;
 use weld::prepare_weld_joint;
@@ -37,6 +38,7 @@ fn weld_sim() -> JointSim {
     joint_sim(
         joint_base(JointType::Weld),
         JointUnion::Weld(DEFAULT_WELD_JOINT),
+        no_angles(),
     )
 }
 
@@ -97,7 +99,11 @@ fn has_motor_impulse(sim: JointSim, bits: u32) -> bool {
 
 fn motor_sim() -> JointSim {
     let motor = revolute_joint(2.0, 4.0);
-    joint_sim(joint_base(JointType::Revolute), JointUnion::Revolute(motor))
+    joint_sim(
+        joint_base(JointType::Revolute),
+        JointUnion::Revolute(motor),
+        no_angles(),
+    )
 }
 
 fn prepared_motor() -> JointSim {
@@ -121,7 +127,7 @@ fn with_linear_impulse(sim: JointSim) -> JointSim {
         return sim;
     };
     j.linear_impulse.x = 1.0;
-    joint_sim(sim.base, JointUnion::Weld(j))
+    joint_sim(sim.base, JointUnion::Weld(j), sim.angles)
 }
 
 fn pushed_weld(body: BodyRecord) -> JointSim {

@@ -6,6 +6,7 @@ use native.Mathlib.Omega.{arith}
 use Rattle.solver.specs.declared.StepContext.{StepContext}
 use Rattle.records.specs.declared.body.BodyRecord.{BodyRecord}
 use Rattle.records.specs.declared.joint.JointBase.{JointBase}
+use Rattle.records.specs.declared.joint.LimitAngles.{LimitAngles}
 use Rattle.records.specs.declared.joint.JointUnion.{JointUnion}
 use Rattle.records.specs.declared.joint.JointUnion.the-variants.{Revolute, Spherical, Weld, Other}
 use Rattle.records.specs.Joint.{isOther, jointSim}
@@ -16,12 +17,12 @@ use Rattle.weld.specs.Weld.{prepareWeldJoint}
 use Rattle.joint.specs.Prepare.{prepareAs, prepareJoint}
 use Rattle.joint.specs.Claims.{PrepareAnswer, PrepareNumber}
 
-module _ (base : JointBase) (context : StepContext) (bodyA bodyB : BodyRecord) where
+module _ (base : JointBase) (angles : LimitAngles) (context : StepContext) (bodyA bodyB : BodyRecord) where
   abbrev answer : JointUnion → Prepared
-  answer u = prepareJoint (jointSim base u) context bodyA bodyB
+  answer u = prepareJoint (jointSim base u angles) context bodyA bodyB
 
   -- a case that is one of the three is worked
-  done : (u : JointUnion) → (u ≡ Other → ⊥) → answer u .number ≡ 0 → answer u .place ≡ 0 → PrepareAnswer (jointSim base u) context bodyA bodyB
+  done : (u : JointUnion) → (u ≡ Other → ⊥) → answer u .number ≡ 0 → answer u .place ≡ 0 → PrepareAnswer (jointSim base u angles) context bodyA bodyB
   done u not number place =
       record {
         refused = (λ e. absurd (omega (arith, e, number)), λ e. absurd (not e));
@@ -30,7 +31,7 @@ module _ (base : JointBase) (context : StepContext) (bodyA bodyB : BodyRecord) w
         unaltered = λ e. absurd (not e);
       }
 
-  by-case : (u : JointUnion) → PrepareAnswer (jointSim base u) context bodyA bodyB
+  by-case : (u : JointUnion) → PrepareAnswer (jointSim base u angles) context bodyA bodyB
   unfolding prepareAs prepareRevoluteJoint prepareSphericalJoint prepareWeldJoint Option·elim
   by-case (Revolute j) = done (Revolute j) (λ e. false≢true (ap isOther e)) refl refl
   by-case (Spherical j) = done (Spherical j) (λ e. false≢true (ap isOther e)) refl refl
@@ -38,4 +39,4 @@ module _ (base : JointBase) (context : StepContext) (bodyA bodyB : BodyRecord) w
   by-case Other = record { refused = (λ e. refl, λ e. refl); number-bound = omega arith; place-zero = refl; unaltered = λ e. refl }
 
 pub prepare-number : PrepareNumber
-prepare-number joint context bodyA bodyB = by-case (joint .base) context bodyA bodyB (joint .«union_»)
+prepare-number joint context bodyA bodyB = by-case (joint .base) (joint .angles) context bodyA bodyB (joint .«union_»)

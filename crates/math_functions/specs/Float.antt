@@ -37,6 +37,13 @@ gt a b = Ieee.lt b a
 abbrev pub eq : Float → Float → Bool
 eq a b = Ieee.eq a b
 
+-- a <= b and a >= b: likewise
+abbrev pub le : Float → Float → Bool
+le a b = Ieee.le a b
+
+abbrev pub ge : Float → Float → Bool
+ge a b = Ieee.le b a
+
 -- The float of a bit pattern: how the source's literals stand in the logic.
 abbrev pub lit : ℕ → Float
 lit n = Ieee.ofBits binary32 n

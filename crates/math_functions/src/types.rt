@@ -1,4 +1,6 @@
 // Math types and constants.
+ghost use mathlib.Core.Path.{_≡_};
+ghost use lib.Ieee as Ieee;
 
 // A 2D vector.
 pub struct Vec2 {
@@ -39,6 +41,13 @@ pub const PI: f32 = 3.14159265358979323846264338327950288;
 
 // f32::MIN_POSITIVE, the smallest normal number.
 pub const MIN_POSITIVE: f32 = 1.17549435e-38;
+
+// A NaN, of which the pattern is left free. It is a function, since no constant can be a NaN.
+pub fn nan() -> f32
+    ensures { λ r. ⌜ r ≡ Ieee.nan ⌝ }
+{
+    0.0 / 0.0
+}
 
 pub const VEC2_ZERO: Vec2 = Vec2 { x: 0.0, y: 0.0 };
 

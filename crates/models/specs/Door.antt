@@ -9,7 +9,7 @@ use Rattle.records.specs.declared.joint.JointUnion.the-variants.{Revolute}
 use Rattle.records.specs.declared.joint.JointSim.{JointSim}
 use Rattle.records.specs.declared.joint.RevoluteJoint.{RevoluteJoint}
 use Rattle.records.specs.Revolute.{Written, Settings, defaultRevolute, withWritten, withSettings}
-use Rattle.records.specs.Joint.{jointSim}
+use Rattle.records.specs.Joint.{noAngles, jointSim}
 use Rattle.models.specs.declared.Model.{Model}
 use Rattle.models.specs.Base.{linearImpulse, post, jointBase}
 use Rattle.models.specs.Body.{fixedBody, slab}
@@ -47,7 +47,7 @@ unfoldable pub hinge : RevoluteJoint
 hinge = withSettings (withWritten defaultRevolute impulses) settings
 
 unfoldable pub hingeJoint : ℕ → JointSim
-hingeJoint leaf = jointSim (jointBase JointType.Revolute 0 post leaf) (Revolute hinge)
+hingeJoint leaf = jointSim (jointBase JointType.Revolute 0 post leaf) (Revolute hinge) noAngles
 
 -- the post stands fast, and the leaf is at an index of the awake set
 unfoldable pub door : ℕ → Model

@@ -9,7 +9,7 @@ use Rattle.records.specs.declared.joint.JointUnion.the-variants.{Spherical}
 use Rattle.records.specs.declared.joint.JointSim.{JointSim}
 use Rattle.records.specs.declared.joint.SphericalJoint.{SphericalJoint}
 use Rattle.records.specs.Spherical.{Written, Settings, defaultSpherical, withWritten, withSettings}
-use Rattle.records.specs.Joint.{jointSim}
+use Rattle.records.specs.Joint.{noAngles, jointSim}
 use Rattle.models.specs.declared.Model.{Model}
 use Rattle.models.specs.Base.{linearImpulse, angularImpulse, jointBase}
 use Rattle.models.specs.Body.{slab}
@@ -47,7 +47,7 @@ unfoldable pub socket : SphericalJoint
 socket = withSettings (withWritten defaultSpherical impulses) settings
 
 unfoldable pub socketJoint : ℕ → ℕ → JointSim
-socketJoint pelvis thigh = jointSim (jointBase JointType.Spherical 1 pelvis thigh) (Spherical socket)
+socketJoint pelvis thigh = jointSim (jointBase JointType.Spherical 1 pelvis thigh) (Spherical socket) noAngles
 
 -- the pelvis and the thigh are at indices of the awake set
 unfoldable pub hip : ℕ → ℕ → Model

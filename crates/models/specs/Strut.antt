@@ -7,7 +7,7 @@ use Rattle.records.specs.declared.joint.JointUnion.the-variants.{Weld}
 use Rattle.records.specs.declared.joint.JointSim.{JointSim}
 use Rattle.records.specs.declared.joint.WeldJoint.{WeldJoint}
 use Rattle.records.specs.Weld.{Written, Settings, defaultWeld, withWritten, withSettings}
-use Rattle.records.specs.Joint.{jointSim}
+use Rattle.records.specs.Joint.{noAngles, jointSim}
 use Rattle.models.specs.declared.Model.{Model}
 use Rattle.models.specs.Base.{linearImpulse, angularImpulse, post, jointBase}
 use Rattle.models.specs.Body.{fixedBody, slab}
@@ -24,7 +24,7 @@ unfoldable pub weldRecord : WeldJoint
 weldRecord = withSettings (withWritten defaultWeld impulses) settings
 
 unfoldable pub weldJoint : ℕ → JointSim
-weldJoint strut = jointSim (jointBase JointType.Weld 2 post strut) (Weld weldRecord)
+weldJoint strut = jointSim (jointBase JointType.Weld 2 post strut) (Weld weldRecord) noAngles
 
 -- the pier stands fast, and the strut is at an index of the awake set
 unfoldable pub strut : ℕ → Model

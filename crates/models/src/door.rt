@@ -14,6 +14,7 @@ use records::joint::JointType;
 use records::joint::JointUnion;
 use records::joint::RevoluteJoint;
 use records::joint::joint_sim;
+use records::joint::no_angles;
 
 // The hinge, with impulses that a step before has left.
 fn hinge() -> RevoluteJoint
@@ -45,7 +46,7 @@ fn hinge_joint(leaf: u8) -> JointSim
     ensures { λ r. ⌜ r ≡ D.hingeJoint leaf ⌝ }
 {
     let base = joint_base(JointType::Revolute, 0, POST, leaf);
-    joint_sim(base, JointUnion::Revolute(hinge()))
+    joint_sim(base, JointUnion::Revolute(hinge()), no_angles())
 }
 
 // The post stands fast, and the leaf is at an index of the awake set.

@@ -15,6 +15,7 @@ use records::joint::JointType;
 use records::joint::JointUnion;
 use records::joint::SphericalJoint;
 use records::joint::joint_sim;
+use records::joint::no_angles;
 
 const MOTOR_IMPULSE: Vec3 = Vec3 {
     x: 0.01,
@@ -72,7 +73,7 @@ fn socket_joint(pelvis: u8, thigh: u8) -> JointSim
     ensures { λ r. ⌜ r ≡ D.socketJoint pelvis thigh ⌝ }
 {
     let base = joint_base(JointType::Spherical, 1, pelvis, thigh);
-    joint_sim(base, JointUnion::Spherical(socket()))
+    joint_sim(base, JointUnion::Spherical(socket()), no_angles())
 }
 
 // The pelvis and the thigh are at indices of the awake set.

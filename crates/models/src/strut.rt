@@ -14,6 +14,7 @@ use records::joint::JointType;
 use records::joint::JointUnion;
 use records::joint::WeldJoint;
 use records::joint::joint_sim;
+use records::joint::no_angles;
 
 // The weld, with impulses that a step before has left.
 fn weld_record() -> WeldJoint
@@ -35,7 +36,7 @@ fn weld_joint(strut: u8) -> JointSim
     ensures { λ r. ⌜ r ≡ D.weldJoint strut ⌝ }
 {
     let base = joint_base(JointType::Weld, 2, POST, strut);
-    joint_sim(base, JointUnion::Weld(weld_record()))
+    joint_sim(base, JointUnion::Weld(weld_record()), no_angles())
 }
 
 // The pier stands fast, and the strut is at an index of the awake set.

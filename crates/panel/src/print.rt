@@ -120,7 +120,7 @@ fn print_stops(code: u32) {
     io::write_all(STDOUT_FILENO, b"\n");
 }
 
-// A joint's number, its pushes, and the code of the stops that push.
+// A joint's number, its pushes, and the code of the stops at which it is.
 pub fn print_joint(j: usize, joint: JointSim) {
     let union_ = joint.union_;
     let stops = stop_code(joint);

@@ -1,13 +1,15 @@
--- Which case a joint is, a joint after a stage, and a joint that is not in use. Definitions only. Assumes nothing.
+-- Which case a joint is, the two angles of its limits, a joint after a solve, and a joint that is not in use. Definitions only. Assumes nothing.
 use mathlib.Core.Bool.{Bool, true, false}
 use mathlib.Core.Option.{Option, none, some}
 use Prim.Native.Nat.{ℕ}
+use lib.Ieee.{Float, nan}
 use Rattle.records.specs.declared.joint.RevoluteJoint.{RevoluteJoint}
 use Rattle.records.specs.declared.joint.SphericalJoint.{SphericalJoint}
 use Rattle.records.specs.declared.joint.WeldJoint.{WeldJoint}
 use Rattle.records.specs.declared.joint.JointBase.{JointBase}
 use Rattle.records.specs.declared.joint.JointUnion.{JointUnion}
 use Rattle.records.specs.declared.joint.JointUnion.the-variants.{Revolute, Spherical, Weld, Other}
+use Rattle.records.specs.declared.joint.LimitAngles.{LimitAngles}
 use Rattle.records.specs.declared.joint.JointSim.{JointSim}
 use Rattle.records.specs.Base.{defaultBase}
 
@@ -58,15 +60,24 @@ isOther (Spherical r) = false
 isOther (Weld r) = false
 isOther Other = true
 
+-- ---- C-11's two angles: 'the joint record gains two angles, twist and swing, beside the Rust's fields'
+
+abbrev pub limitAngles : Float → Float → LimitAngles
+limitAngles twist swing = record { twist = twist; swing = swing }
+
+-- what prepare stores, and a solve that works no limit row, and what a joint that is not in use holds
+abbrev pub noAngles : LimitAngles
+noAngles = limitAngles nan nan
+
 -- ---- a joint, put together here and nowhere else
 
-abbrev pub jointSim : JointBase → JointUnion → JointSim
-jointSim base union = record { base = base; «union_» = union }
+abbrev pub jointSim : JointBase → JointUnion → LimitAngles → JointSim
+jointSim base union angles = record { base = base; «union_» = union; angles = angles }
 
--- the joint once a solve has left this record of its kind: all else stays as it was. (A warm start leaves the joint whole.)
-abbrev pub afterStage : JointSim → JointUnion → JointSim
-afterStage joint union = jointSim (joint .base) union
+-- the joint once a solve has left this record of its kind and stored these angles: all else stays as it was. (A warm start leaves the joint whole.)
+abbrev pub afterSolve : JointSim → JointUnion → LimitAngles → JointSim
+afterSolve joint union angles = jointSim (joint .base) union angles
 
--- UNUSED_JOINT: the Rust's default, with the empty case
+-- the Rust's default, with the empty case; C-11: 'an unused joint holds NaN'
 abbrev pub unusedJoint : JointSim
-unusedJoint = jointSim defaultBase Other
+unusedJoint = jointSim defaultBase Other noAngles

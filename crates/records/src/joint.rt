@@ -1,4 +1,5 @@
-// Joint records: the three kinds, the union of them, and the part that all kinds share.
+// Joint records: the three kinds, the union of them, the part that all kinds share, and the angles of
+// the limits.
 ghost use mathlib.Core.Path.{_≡_};
 ghost use Rattle.records.specs.Joint as D;
 ghost use Rattle.records.specs.Revolute as R;
@@ -15,6 +16,7 @@ use math_functions::types::VEC2_ZERO;
 use math_functions::types::VEC3_ZERO;
 use math_functions::types::Vec2;
 use math_functions::types::Vec3;
+use math_functions::types::nan;
 use solver::NO_SOFTNESS;
 use solver::Softness;
 
@@ -255,10 +257,29 @@ pub struct JointBase {
     pub fixed_rotation: bool,
 }
 
-// A joint: the Rust's JointSim in two parts, since the rows read the first part of every kind.
+// The angles at which the last solve worked the joint's limits: the twist angle of a revolute joint's
+// limit or a spherical one's twist limit, the swing angle of its cone. NaN where it did not work that
+// row, where the kind has no such row, and in both where no solve was since the prepare.
+pub struct LimitAngles {
+    pub twist: f32,
+    pub swing: f32,
+}
+
+pub fn no_angles() -> LimitAngles
+    ensures { λ r. ⌜ r ≡ D.noAngles ⌝ }
+{
+    LimitAngles {
+        twist: nan(),
+        swing: nan(),
+    }
+}
+
+// A joint: the Rust's JointSim in two parts, since the rows read the first part of every kind, and
+// beside it the two angles, which the Rust does not keep.
 pub struct JointSim {
     pub base: JointBase,
     pub union_: JointUnion,
+    pub angles: LimitAngles,
 }
 
 // The Rust's default of JointSim, all but the union.
@@ -281,15 +302,27 @@ pub const DEFAULT_JOINT_BASE: JointBase = JointBase {
     fixed_rotation: false,
 };
 
-// A joint that is not in use: the default, with the empty case.
-pub const UNUSED_JOINT: JointSim = JointSim {
-    base: DEFAULT_JOINT_BASE,
-    union_: JointUnion::Other,
-};
-
-// A joint of the two parts. (The stages of the kinds, which are timed, put theirs together themselves.)
-pub fn joint_sim(base: JointBase, union_: JointUnion) -> JointSim
-    ensures { λ r. ⌜ r ≡ D.jointSim base «union_» ⌝ }
+// A joint that is not in use: the default, with the empty case and NaN in both angles. (No constant can
+// hold a NaN.)
+pub fn unused_joint() -> JointSim
+    ensures { λ r. ⌜ r ≡ D.unusedJoint ⌝ }
 {
-    JointSim { base, union_ }
+    let angles = no_angles();
+    JointSim {
+        base: DEFAULT_JOINT_BASE,
+        union_: JointUnion::Other,
+        angles,
+    }
+}
+
+// A joint of its three parts. (The stages of the kinds, which are timed, put theirs together
+// themselves.)
+pub fn joint_sim(base: JointBase, union_: JointUnion, angles: LimitAngles) -> JointSim
+    ensures { λ r. ⌜ r ≡ D.jointSim base «union_» angles ⌝ }
+{
+    JointSim {
+        base,
+        union_,
+        angles,
+    }
 }

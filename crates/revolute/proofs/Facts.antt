@@ -3,9 +3,12 @@ use Prim.Native.Nat.{ℕ}
 use mathlib.Core.Path.{_≡_, refl}
 use mathlib.Core.Bool.{Bool, true, false, cond}
 use lib.Ieee as Ieee
-use lib.Ieee.{Float, fin}
+use lib.Ieee.{Float, nan, fin}
 use lib.IntN.{ℤ, negsuc}
 use Rattle.math_functions.specs.declared.types.Vec3.{Vec3}
+use Rattle.math_functions.specs.declared.types.Quat.{Quat}
+use Rattle.math_functions.specs.Quat.{getTwistAngle}
+use Rattle.solver.specs.declared.Softness.{Softness}
 use Rattle.solver.specs.declared.StepContext.{StepContext}
 use Rattle.records.specs.declared.body.BodyState.{BodyState}
 use Rattle.records.specs.Body.{withFlags, withDeltaPosition}
@@ -13,18 +16,22 @@ use Rattle.records.specs.declared.body.BodyRecord.{BodyRecord}
 use Rattle.records.specs.declared.joint.RevoluteJoint.{RevoluteJoint}
 use Rattle.records.specs.declared.joint.JointBase.{JointBase}
 use Rattle.records.specs.declared.joint.JointSim.{JointSim}
-use Rattle.records.specs.Joint.{asRevolute, isRevolute}
+use Rattle.records.specs.Joint.{asRevolute, isRevolute, limitAngles, noAngles}
 use Rattle.records.specs.Revolute.{withIndices}
+use Rattle.constraint.specs.declared.velocity.Velocities.{Velocities}
+use Rattle.constraint.specs.declared.velocity.InvMasses.{InvMasses}
 use Rattle.constraint.specs.declared.answer.Prepared.{Prepared}
 use Rattle.constraint.specs.declared.answer.WarmStarted.{WarmStarted}
 use Rattle.constraint.specs.declared.answer.Solved.{Solved}
 use Rattle.constraint.specs.Velocity.{velocitiesOf}
+use Rattle.constraint.specs.Angular.{isWorked, twistAngleIf, twistLimitRows}
 use Rattle.constraint.specs.Prepare.{prepareBase}
 use Rattle.constraint.specs.Answer.{notPrepared, notWarmStarted, notSolved}
 use Rattle.constraint.specs.Claims.{NonNegative, AtMostOne, BothOfKind}
 use Rattle.constraint.proofs.Facts.{worked, twist-lower-nonNegative, twist-upper-nonNegative, zero-at-most, one-at-most}
 use Rattle.constraint.proofs.Facts.{always, kept, numbered, refused, case-kept, accepted, both-of-kind}
-use Rattle.revolute.specs.Revolute.{half, withImpulses, jointRotation, solveSpring, solveMotor, solveLimits, solvePerp, solvePoint, revoluteSolved}
+use Rattle.revolute.specs.Revolute.{half, withImpulses, twistLimit, jointRotation, solveSpring, solveMotor, solveLimits, solvePerp, solvePoint}
+use Rattle.revolute.specs.Revolute.{revoluteSolved}
 use Rattle.revolute.specs.Revolute.{solveRevolute, warmAngularImpulse, warmStartRevolute}
 use Rattle.revolute.specs.Revolute.{prepareRevolute, prepareRevoluteJoint, warmStartRevoluteJoint, solveRevoluteJoint}
 use Rattle.revolute.specs.Claims.{LimitImpulsesNonNegative}
@@ -63,11 +70,32 @@ module _ (base : JointBase) (j : RevoluteJoint) (h invH : Float) (stateA stateB 
   unfolding solveRevolute
   solve-keeps = refl
 
+  -- beside the joint's record it stores the twist angle at which it worked the limit's rows, or NaN, and NaN for the swing
+  pub solve-angles :
+      solveRevolute base j h invH stateA stateB useBias .angles
+      ≡ limitAngles (twistAngleIf (isWorked (j .«enable_limit») (base .«fixed_rotation»)) (jointRotation j stateA stateB .«rel_q»)) nan
+  unfolding solveRevolute
+  solve-angles = refl
+
+-- the limit's rows at the angle that is stored are those at the Rust's twist angle: where they are not worked they read none
+pub limits-at-twist : (fixedRotation : Bool) (s : Softness) (j : RevoluteJoint) (relQ : Quat) (invH : Float) (useBias : Bool) (m : InvMasses) (v : Velocities) →
+    solveLimits fixedRotation s j (twistAngleIf (isWorked (j .«enable_limit») fixedRotation) relQ) invH useBias m v
+    ≡ solveLimits fixedRotation s j (getTwistAngle relQ) invH useBias m v
+unfolding solveLimits twistLimitRows twistAngleIf
+limits-at-twist fixedRotation s j relQ invH useBias m v = go (isWorked (j .«enable_limit») fixedRotation)
+  where
+    go : (worked : Bool)
+        → twistLimitRows worked (twistLimit j (twistAngleIf worked relQ)) s invH useBias m v
+        ≡ twistLimitRows worked (twistLimit j (getTwistAngle relQ)) s invH useBias m v
+    go true = refl
+    go false = refl
+
 module _ (base : JointBase) (j : RevoluteJoint) (stateA stateB : BodyState) where
   -- the indices are not read, and stay
   pub solve-indices : (h invH : Float) (useBias : Bool) (x y : ℤ) →
       let r = solveRevolute base j h invH stateA stateB useBias in
-      solveRevolute base (withIndices j x y) h invH stateA stateB useBias ≡ revoluteSolved (withIndices (r .joint) x y) (r .velocities)
+      solveRevolute base (withIndices j x y) h invH stateA stateB useBias
+      ≡ revoluteSolved (withIndices (r .joint) x y) (r .angles) (r .velocities)
   unfolding solveRevolute jointRotation solveSpring solveMotor solveLimits solvePerp solvePoint
   solve-indices h invH useBias x y = refl
 
@@ -137,6 +165,11 @@ module _ (sim : JointSim) (context : StepContext) (bodyA bodyB : BodyRecord) whe
       accepted (λ (r : Prepared). r .number) (λ (r : Prepared). r .joint .base ≡ prepareBase (sim .base) bodyA bodyB) (asRevolute (sim .«union_»)) _ _
       refl (λ k. refl)
 
+  -- where the number is 0 both angles are NaN
+  pub prepare-angles : prepareRevoluteJoint sim context bodyA bodyB .number ≡ 0 → prepareRevoluteJoint sim context bodyA bodyB .joint .angles ≡ noAngles
+  unfolding prepareRevoluteJoint
+  prepare-angles = accepted (λ (r : Prepared). r .number) (λ (r : Prepared). r .joint .angles ≡ noAngles) (asRevolute (sim .«union_»)) _ _ refl (λ k. refl)
+
 module _ (sim : JointSim) (stateA stateB : BodyState) where
   -- a warm start changes no field of the joint
   pub warm-start-joint : warmStartRevoluteJoint sim stateA stateB .joint ≡ sim
@@ -159,7 +192,7 @@ module _ (sim : JointSim) (stateA stateB : BodyState) where
   warm-start-range = always (λ (r : WarmStarted). AtMostOne (r .number) (r .place)) (asRevolute (sim .«union_»)) _ _ one-at-most (λ k. zero-at-most)
 
 module _ (sim : JointSim) (context : StepContext) (stateA stateB : BodyState) (useBias : Bool) where
-  -- a solve changes nothing of the joint but the revolute record
+  -- a solve changes nothing of the joint but the revolute record and the two angles
   pub solve-base : solveRevoluteJoint sim context stateA stateB useBias .joint .base ≡ sim .base
   unfolding solveRevoluteJoint
   solve-base = kept (λ (r : Solved). r .joint .base) (sim .base) (asRevolute (sim .«union_»)) _ _ refl (λ k. refl)

@@ -1,7 +1,7 @@
 -- joint/revolute.rs: prepare, warm start and solve of a revolute joint. Definitions only. Assumes nothing.
 use mathlib.Core.Bool.{Bool, not, cond}
 use mathlib.Core.Option.{Option·elim}
-use lib.Ieee.{Float}
+use lib.Ieee.{Float, nan}
 use Rattle.math_functions.specs.declared.types.Vec2.{Vec2}
 use Rattle.math_functions.specs.declared.types.Vec3.{Vec3}
 use Rattle.math_functions.specs.declared.types.Quat.{Quat}
@@ -22,9 +22,10 @@ use Rattle.records.specs.declared.body.BodyState.{BodyState}
 use Rattle.records.specs.declared.body.BodyRecord.{BodyRecord}
 use Rattle.records.specs.declared.joint.RevoluteJoint.{RevoluteJoint}
 use Rattle.records.specs.declared.joint.JointBase.{JointBase}
+use Rattle.records.specs.declared.joint.LimitAngles.{LimitAngles}
 use Rattle.records.specs.declared.joint.JointSim.{JointSim}
 use Rattle.records.specs.declared.joint.JointUnion.the-variants.{Revolute}
-use Rattle.records.specs.Joint.{asRevolute, jointSim, afterStage}
+use Rattle.records.specs.Joint.{asRevolute, limitAngles, noAngles, jointSim, afterSolve}
 use Rattle.records.specs.Revolute.{Written, Made, built, settingsOf, withWritten}
 use Rattle.constraint.specs.declared.velocity.Velocities.{Velocities}
 use Rattle.constraint.specs.declared.velocity.InvMasses.{InvMasses}
@@ -39,7 +40,7 @@ use Rattle.constraint.specs.declared.answer.Solved.{Solved}
 use Rattle.constraint.specs.Velocity.{velocitiesOf, invMassesOf, applyAxial, applyAngular, applyPoint, applyWarm}
 use Rattle.constraint.specs.Soft.{softBias, softBias2, softImpulse, softImpulse3Products, rigid2}
 use Rattle.constraint.specs.Rotation.{flippedRelativeRotation}
-use Rattle.constraint.specs.Angular.{axialRow, row3, isWorked, TwistLimit, twistLimitRows}
+use Rattle.constraint.specs.Angular.{axialRow, row3, isWorked, twistAngleIf, TwistLimit, twistLimitRows}
 use Rattle.constraint.specs.Point.{pointBias, pointMass, pointCdot}
 use Rattle.constraint.specs.Prepare.{prepareBase, prepareFrame, awakeIndex, axialMass}
 use Rattle.constraint.specs.Answer.{prepared, notPrepared, warmStarted, notWarmStarted, solved, notSolved}
@@ -237,9 +238,9 @@ twistLimit j angle =
       «upper_impulse» = j .«upper_impulse»;
     }
 
-unfoldable pub solveLimits : Bool → Softness → RevoluteJoint → Quat → Float → Bool → InvMasses → Velocities → LimitRows
-solveLimits fixedRotation softness j relQ invH useBias m v =
-    twistLimitRows (isWorked (j .«enable_limit») fixedRotation) (twistLimit j (getTwistAngle relQ)) softness invH useBias m v
+unfoldable pub solveLimits : Bool → Softness → RevoluteJoint → Float → Float → Bool → InvMasses → Velocities → LimitRows
+solveLimits fixedRotation softness j angle invH useBias m v =
+    twistLimitRows (isWorked (j .«enable_limit») fixedRotation) (twistLimit j angle) softness invH useBias m v
 
 unfoldable pub solvePerp : Bool → Softness → RevoluteJoint → RelativeRotation → Bool → InvMasses → Velocities → PerpRow
 solvePerp fixedRotation softness j rotation useBias m v =
@@ -251,10 +252,11 @@ solvePoint softness j stateA stateB useBias m v =
     let rB = rotateVector (stateB .«delta_rotation») (j .«frame_b» .p) in
     pointRow useBias softness rA rB (stateA .«delta_position») (stateB .«delta_position») (j .«delta_center») (j .«linear_impulse») m v
 
-abbrev pub revoluteSolved : RevoluteJoint → Velocities → RevoluteSolved
-revoluteSolved joint velocities = record { joint = joint; velocities = velocities }
+abbrev pub revoluteSolved : RevoluteJoint → LimitAngles → Velocities → RevoluteSolved
+revoluteSolved joint angles velocities = record { joint = joint; angles = angles; velocities = velocities }
 
--- document 01's rows of a solve, in order: spring, motor, lower, upper, two perpendicular axes, point
+-- document 01's rows of a solve, in order: spring, motor, lower, upper, two perpendicular axes, point. C-11: the angle of the limit's rows is stored as the
+-- twist, and NaN as the swing: there is no cone
 unfoldable pub solveRevolute : JointBase → RevoluteJoint → Float → Float → BodyState → BodyState → Bool → RevoluteSolved
 solveRevolute base j h invH stateA stateB useBias =
     let m = invMassesOf base in
@@ -263,25 +265,27 @@ solveRevolute base j h invH stateA stateB useBias =
     let rotation = jointRotation j stateA stateB in
     let spring = solveSpring fixedRotation j (rotation .«rel_q») m (velocitiesOf stateA stateB) in
     let motor = solveMotor fixedRotation j h m (spring .velocities) in
-    let limits = solveLimits fixedRotation softness j (rotation .«rel_q») invH useBias m (motor .velocities) in
+    let angle = twistAngleIf (isWorked (j .«enable_limit») fixedRotation) (rotation .«rel_q») in
+    let limits = solveLimits fixedRotation softness j angle invH useBias m (motor .velocities) in
     let perp = solvePerp fixedRotation softness j rotation useBias m (limits .velocities) in
     let point = solvePoint softness j stateA stateB useBias m (perp .velocities) in
     revoluteSolved
     (withImpulses j (point .impulse) (perp .«perp_impulse») (spring .impulse) (motor .impulse) (limits .«lower_impulse») (limits .«upper_impulse»)
     (perp .«perp_axis_x») (perp .«perp_axis_y»))
+    (limitAngles angle nan)
     (point .velocities)
 
 -- ==== The stages over a joint of any kind
 
 -- A joint whose case is not Revolute gets number 1, place 0, and nothing is altered.
 
--- of the context h and enable_warm_starting
+-- of the context h and enable_warm_starting. C-11: 'prepare stores NaN in both'
 unfoldable pub prepareRevoluteJoint : JointSim → StepContext → BodyRecord → BodyRecord → Prepared
 prepareRevoluteJoint sim context bodyA bodyB =
     Option·elim (asRevolute (sim .«union_»)) (notPrepared sim) λ j.
     let deltaCenter = subPos (bodyB .center) (bodyA .center) in
     let r = prepareRevolute (sim .base) j (context .h) (context .«enable_warm_starting») deltaCenter bodyA bodyB in
-    prepared (jointSim (r .base) (Revolute (r .joint)))
+    prepared (jointSim (r .base) (Revolute (r .joint)) noAngles)
 
 unfoldable pub warmStartRevoluteJoint : JointSim → BodyState → BodyState → WarmStarted
 warmStartRevoluteJoint sim stateA stateB =
@@ -292,4 +296,4 @@ unfoldable pub solveRevoluteJoint : JointSim → StepContext → BodyState → B
 solveRevoluteJoint sim context stateA stateB useBias =
     Option·elim (asRevolute (sim .«union_»)) (notSolved sim stateA stateB) λ j.
     let r = solveRevolute (sim .base) j (context .h) (context .«inv_h») stateA stateB useBias in
-    solved (afterStage sim (Revolute (r .joint))) (r .velocities)
+    solved (afterSolve sim (Revolute (r .joint)) (r .angles)) (r .velocities)

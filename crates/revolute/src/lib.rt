@@ -21,7 +21,9 @@ use records::body::BodyState;
 use records::joint::JointBase;
 use records::joint::JointSim;
 use records::joint::JointUnion;
+use records::joint::LimitAngles;
 use records::joint::RevoluteJoint;
+use records::joint::no_angles;
 use solver::StepContext;
 
 mod prepare;
@@ -30,12 +32,13 @@ mod solve;
 mod warm_start;
 
 // A joint of this kind.
-fn revolute_sim(base: JointBase, joint: RevoluteJoint) -> JointSim
-    ensures { λ r. ⌜ r ≡ jointSim base (Revolute joint) ⌝ }
+fn revolute_sim(base: JointBase, joint: RevoluteJoint, angles: LimitAngles) -> JointSim
+    ensures { λ r. ⌜ r ≡ jointSim base (Revolute joint) angles ⌝ }
 {
     JointSim {
         base,
         union_: JointUnion::Revolute(joint),
+        angles,
     }
 }
 
@@ -66,7 +69,7 @@ pub fn prepare_revolute_joint(
         body_a,
         body_b,
     );
-    joint = revolute_sim(p.base, p.joint);
+    joint = revolute_sim(p.base, p.joint, no_angles());
     Prepared {
         number: 0,
         place: 0,
@@ -119,7 +122,7 @@ pub fn solve_revolute_joint(
         use_bias,
     );
     let velocities = s.velocities;
-    joint = revolute_sim(joint.base, s.joint);
+    joint = revolute_sim(joint.base, s.joint, s.angles);
     Solved {
         number: 0,
         place: 0,

@@ -12,6 +12,7 @@ use constraint::angular::Row3;
 use constraint::angular::is_worked;
 use constraint::angular::limit_rows;
 use constraint::angular::lower_limit_sum;
+use constraint::angular::twist_angle_if;
 use constraint::angular::upper_limit_row;
 use constraint::rotation::RelativeRotation;
 use constraint::rotation::same_polarity;
@@ -21,21 +22,23 @@ use constraint::velocity::Velocities;
 use constraint::velocity::apply_axial;
 use constraint::velocity::inv_masses_of;
 use constraint::velocity::velocities_of;
-use math_functions::quat::get_twist_angle;
 use math_functions::quat::inv_mul_quat;
 use math_functions::quat::mul_quat;
 use math_functions::quat::rotate_vector;
 use math_functions::types::Quat;
 use math_functions::types::Vec2;
 use math_functions::types::Vec3;
+use math_functions::types::nan;
 use records::body::BodyState;
 use records::joint::JointBase;
+use records::joint::LimitAngles;
 use records::joint::RevoluteJoint;
 use solver::Softness;
 
 // What a solve leaves.
 pub struct RevoluteSolved {
     pub joint: RevoluteJoint,
+    pub angles: LimitAngles,
     pub velocities: Velocities,
 }
 
@@ -100,13 +103,13 @@ fn solve_limits(
     fixed_rotation: bool,
     softness: Softness,
     joint: RevoluteJoint,
-    rel_q: Quat,
+    angle: f32,
     inv_h: f32,
     use_bias: bool,
     m: InvMasses,
     v: Velocities,
 ) -> LimitRows
-    ensures { λ r. ⌜ r ≡ D.solveLimits «fixed_rotation» softness joint «rel_q» «inv_h» «use_bias» m v ⌝ }
+    ensures { λ r. ⌜ r ≡ D.solveLimits «fixed_rotation» softness joint angle «inv_h» «use_bias» m v ⌝ }
 {
     if !is_worked(joint.enable_limit, fixed_rotation) {
         return LimitRows {
@@ -117,7 +120,6 @@ fn solve_limits(
     }
     let mass = joint.axial_mass;
     let axis = joint.rotation_axis_z;
-    let angle = get_twist_angle(rel_q);
     let lower_bias = limit_bias(angle - joint.lower_angle, softness, inv_h, use_bias);
     let old_impulse = joint.lower_impulse;
     let sum = lower_limit_sum(lower_bias, mass, axis, old_impulse, v);
@@ -234,7 +236,8 @@ pub fn solve_revolute(
     let spring = solve_spring(fixed, joint, turn.rel_q, m, v);
     let motor = solve_motor(fixed, joint, h, m, spring.velocities);
     let v = motor.velocities;
-    let limits = solve_limits(fixed, soft, joint, turn.rel_q, inv_h, use_bias, m, v);
+    let twist = twist_angle_if(is_worked(joint.enable_limit, fixed), turn.rel_q);
+    let limits = solve_limits(fixed, soft, joint, twist, inv_h, use_bias, m, v);
     let perp = solve_perp(fixed, soft, joint, turn, use_bias, m, limits.velocities);
     let point = solve_point(soft, joint, state_a, state_b, use_bias, m, perp.velocities);
     joint = with_impulses(
@@ -248,6 +251,14 @@ pub fn solve_revolute(
         perp.perp_axis_x,
         perp.perp_axis_y,
     );
+    let angles = LimitAngles {
+        twist,
+        swing: nan(),
+    };
     let velocities = point.velocities;
-    RevoluteSolved { joint, velocities }
+    RevoluteSolved {
+        joint,
+        angles,
+        velocities,
+    }
 }

@@ -18,9 +18,9 @@ use Rattle.records.specs.Joint.{unusedJoint}
 use Rattle.joint.specs.Index.{indexA, indexB}
 use Rattle.scene.specs.Scene.{jointAt, bodyAt, Dynamic, NamesBody, Names}
 use Rattle.scene.specs.Calls.{Call, Listed, SolveListed}
-use Rattle.scene.proofs.Stages.{fixedOf, warm-keeps}
+use Rattle.scene.proofs.Stages.{warm-keeps}
 use Rattle.scene.specs.Plain.{stageAt, storeBoth, step, runAll}
-use Rattle.scene.specs.Claims.{OnlyVelocities, OnlyChanges}
+use Rattle.scene.specs.Claims.{OnlyVelocities, settingsOf, OnlyChanges}
 use Rattle.scene.proofs.Stores.{restOf, SameRest, rest-at, dynamic-at, clash, both-unseen}
 use Rattle.scene.proofs.Framed.{Framed, framed, framed-start, framed-step, fixed-at}
 use Rattle.scene.proofs.Order.{clash-yes}
@@ -102,7 +102,7 @@ only-changes s l =
       joint-count = f .joint-count;
       context = f .context;
       as-many-bodies = sym (length-map (t .bodies) restOf) ∙ ap length (f .bodies) ∙ length-map (s .bodies) restOf;
-      as-many-joints = sym (length-map (t .joints) fixedOf) ∙ ap length (f .joints) ∙ length-map (s .joints) fixedOf;
+      as-many-joints = sym (length-map (t .joints) settingsOf) ∙ ap length (f .joints) ∙ length-map (s .joints) settingsOf;
       bodies = λ n. only-velocities (t .bodies) (s .bodies) (f .bodies) n;
       joints = fixed-at s t f;
       body-kept = λ n h. bodies-kept s n l s (framed-start s) h;

@@ -17,25 +17,25 @@ use Rattle.scene.specs.declared.Scene.{Scene}
 use Rattle.scene.specs.Scene.{jointAt}
 use Rattle.scene.specs.Calls.{Call}
 use Rattle.scene.specs.Plain.{causeIn, cause, stageAt, step, runAll}
-use Rattle.scene.specs.Claims.{settingsOf, OnlyImpulses}
-use Rattle.scene.proofs.Stages.{fixedOf, stage-keeps}
+use Rattle.scene.specs.Claims.{recordSettings, settingsOf, OnlyImpulses}
+use Rattle.scene.proofs.Stages.{stage-keeps}
 use Rattle.scene.proofs.Stores.{SameRest, both-rest}
 
 -- what reads nothing of a joint that a solve writes is the same of two joints with the same settings
 pub unread : {A : Type 0} (f : JointUnion → A)
-    → ((r : RevoluteJoint) → f (settingsOf (Revolute r)) ≡ f (Revolute r))
-    → ((r : SphericalJoint) → f (settingsOf (Spherical r)) ≡ f (Spherical r))
-    → ((r : WeldJoint) → f (settingsOf (Weld r)) ≡ f (Weld r))
-    → (u v : JointUnion) → settingsOf u ≡ settingsOf v → f u ≡ f v
+    → ((r : RevoluteJoint) → f (recordSettings (Revolute r)) ≡ f (Revolute r))
+    → ((r : SphericalJoint) → f (recordSettings (Spherical r)) ≡ f (Spherical r))
+    → ((r : WeldJoint) → f (recordSettings (Weld r)) ≡ f (Weld r))
+    → (u v : JointUnion) → recordSettings u ≡ recordSettings v → f u ≡ f v
 unread f p q r u v e = sym (at u) ∙ ap f e ∙ at v
   where
-    at : (u : JointUnion) → f (settingsOf u) ≡ f u
+    at : (u : JointUnion) → f (recordSettings u) ≡ f u
     at (Revolute j) = p j
     at (Spherical j) = q j
     at (Weld j) = r j
     at Other = refl
 
-pub only-impulses : (before after : JointSim) → fixedOf after ≡ fixedOf before → OnlyImpulses before after
+pub only-impulses : (before after : JointSim) → settingsOf after ≡ settingsOf before → OnlyImpulses before after
 only-impulses before after e =
     let u = before .«union_» in
     let v = after .«union_» in
@@ -45,13 +45,13 @@ only-impulses before after e =
       case = unread caseOf (λ r. refl) (λ r. refl) (λ r. refl) v u same;
       index-a = unread indexA (λ r. refl) (λ r. refl) (λ r. refl) v u same;
       index-b = unread indexB (λ r. refl) (λ r. refl) (λ r. refl) v u same;
-      settings = same;
+      settings = e;
     }
 
 -- `t` is as `s` was fed
 pub record Framed (s t : Scene) : Type 0 where
   pub bodies : SameRest (t .bodies) (s .bodies)
-  pub joints : map fixedOf (t .joints) ≡ map fixedOf (s .joints)
+  pub joints : map settingsOf (t .joints) ≡ map settingsOf (s .joints)
   pub body-count : t .«body_count» ≡ s .«body_count»
   pub joint-count : t .«joint_count» ≡ s .«joint_count»
   pub context : t .context ≡ s .context
@@ -65,7 +65,7 @@ framed-step s c t f =
     let j = jointAt t (c .slot) in
     record {
       bodies = both-rest (t .bodies) (j .«union_») (stageAt t j (c .stage) .velocities) ∙ f .bodies;
-      joints = map-set-same fixedOf (t .joints) (c .slot) _ unusedJoint (stage-keeps j _ _ _ (c .stage)) ∙ f .joints;
+      joints = map-set-same settingsOf (t .joints) (c .slot) _ unusedJoint (stage-keeps j _ _ _ (c .stage)) ∙ f .joints;
       body-count = f .body-count;
       joint-count = f .joint-count;
       context = f .context;
@@ -81,9 +81,9 @@ framed s l = framed-from s l s (framed-start s)
 pub fixed-at : (s t : Scene) → Framed s t → (j : ℕ) → OnlyImpulses (jointAt s j) (jointAt t j)
 fixed-at s t f j =
     only-impulses (jointAt s j) (jointAt t j)
-    (sym (List·getD-map fixedOf (t .joints) j unusedJoint)
-    ∙ ap (λ l. getD l j (fixedOf unusedJoint)) (f .joints)
-    ∙ List·getD-map fixedOf (s .joints) j unusedJoint)
+    (sym (List·getD-map settingsOf (t .joints) j unusedJoint)
+    ∙ ap (λ l. getD l j (settingsOf unusedJoint)) (f .joints)
+    ∙ List·getD-map settingsOf (s .joints) j unusedJoint)
 
 -- ---- a call's cause is the same in every scene that a run passes through
 
@@ -93,4 +93,5 @@ cause-kept s t f c =
     let u = jointAt s (c .slot) .«union_» in
     let v = jointAt t (c .slot) .«union_» in
     ap₂ (λ m n. causeIn m n v c) (f .body-count) (f .joint-count)
-    ∙ unread (λ x. causeIn (s .«body_count») (s .«joint_count») x c) (λ r. refl) (λ r. refl) (λ r. refl) v u (fixed-at s t f (c .slot) .settings)
+    ∙ unread (λ x. causeIn (s .«body_count») (s .«joint_count») x c) (λ r. refl) (λ r. refl) (λ r. refl) v u
+    (ap (λ j. j .«union_») (fixed-at s t f (c .slot) .settings))

@@ -21,7 +21,7 @@ use Rattle.scene.specs.Calls.{Call, calls, SolveListed}
 use Rattle.scene.specs.Plain.{verdict, Accepted, runCalls, isStill, plainRun}
 use Rattle.scene.specs.Claims.{Cause6, Cause7, callTests, tests, Numbers, Acceptance, AcceptedIsZero, InRange, Range, Refusal, Midway}
 use Rattle.scene.specs.Claims.{Chained, ChainedLists, bothVelocities, Stillness, SameBits, StillKeepsBodies, NoBodies, EmptyList, Order, OrderCounted}
-use Rattle.scene.specs.Claims.{Changes, ChangesMidway, OnlyChanges, settingsOf, limitsOf, LimitsNonNegative}
+use Rattle.scene.specs.Claims.{Changes, ChangesMidway, OnlyChanges, recordSettings, limitsOf, LimitsNonNegative}
 use Rattle.scene.specs.Claims.{LimitsAfterSolve, LimitsMidway, Limits, Differ, Agree}
 use Rattle.scene.proofs.Accepted.{verdict-answers, answers-numbers, answers-none, OfTests, answers-hold}
 use Rattle.scene.proofs.Accepted.{by-verdict, run-accepted, run-verdict, accepted-calls, no-cause-kept, no-cause-at}
@@ -167,7 +167,7 @@ still-keeps-bodies s l e = (
 -- ---- limits
 
 -- the switches are settings
-limits-from : (u v w : JointUnion) → settingsOf u ≡ settingsOf w → LimitsNonNegative u v → LimitsNonNegative w v
+limits-from : (u v w : JointUnion) → recordSettings u ≡ recordSettings w → LimitsNonNegative u v → LimitsNonNegative w v
 limits-from u v w e p =
     let limit = unread (λ x. limitsOf x .limit-on) (λ r. refl) (λ r. refl) (λ r. refl) u w e in
     let cone = unread (λ x. limitsOf x .cone-on) (λ r. refl) (λ r. refl) (λ r. refl) u w e in
@@ -198,7 +198,7 @@ pub limits-midway : LimitsMidway
 limits-midway s before j solved free =
     let t = runCalls before s in
     let same = fixed-at s t (framed s before) j in
-    limits-from (jointAt t j .«union_») (jointAt t j .«union_») (jointAt s j .«union_») (same .settings)
+    limits-from (jointAt t j .«union_») (jointAt t j .«union_») (jointAt s j .«union_») (ap (λ x. x .«union_») (same .settings))
     (settled Settled (λ f. no-limits Other Other refl refl) settles settled-stays before s j solved (ap (λ x. x .«fixed_rotation») (same .base) ∙ free))
 
 solved-last : (before : List Call) (c : Call) → c .stage ≢ 0 → SolveListed (c .slot) (before ++ (c ∷ []))

@@ -15,7 +15,7 @@ use Rattle.records.specs.declared.joint.JointSim.{JointSim}
 use Rattle.records.specs.Body.{identityBodyState, withVelocities, withFlags}
 use Rattle.records.specs.Base.{settingsWith, built}
 use Rattle.records.specs.Weld.{defaultWeld, withIndices}
-use Rattle.records.specs.Joint.{jointSim, unusedJoint}
+use Rattle.records.specs.Joint.{noAngles, jointSim, unusedJoint}
 use Rattle.scene.specs.declared.Scene.{Scene}
 
 -- 4.0 and 8.0
@@ -33,6 +33,7 @@ weld a b =
     (settingsWith (pos a) (pos a) (pos b) JointType.Weld transformIdentity transformIdentity noSoftness)
     (record { «inv_mass_a» = one; «inv_mass_b» = one; «inv_i_a» = mat3Zero; «inv_i_b» = mat3Zero; «fixed_rotation» = true }))
     (Weld (withIndices defaultWeld (pos a) (pos b)))
+    noAngles
 
 -- a body that moves along x
 abbrev pub moving : Float → ℕ → BodyState

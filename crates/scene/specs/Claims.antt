@@ -22,7 +22,7 @@ use Rattle.records.specs.declared.body.BodyState.{BodyState}
 use Rattle.records.specs.declared.joint.JointSim.{JointSim}
 use Rattle.records.specs.declared.joint.JointUnion.{JointUnion}
 use Rattle.records.specs.declared.joint.JointUnion.the-variants.{Revolute, Spherical, Weld, Other}
-use Rattle.records.specs.Joint.{caseOf}
+use Rattle.records.specs.Joint.{caseOf, noAngles, jointSim}
 use Rattle.records.specs.Revolute as R
 use Rattle.records.specs.Spherical as S
 use Rattle.records.specs.Weld as W
@@ -206,21 +206,25 @@ pub record OnlyVelocities (before after : BodyState) : Type 0 where
   pub delta-rotation : after .«delta_rotation» ≡ before .«delta_rotation»
   pub flags : after .flags ≡ before .flags
 
--- a joint's record with what a solve writes set to zero: the impulses, and revolute's two perpendicular axes. Left are the settings, the switches among them,
+-- a kind's record with what a solve writes set to zero: the impulses, and revolute's two perpendicular axes. Left are the settings, the switches among them,
 -- the indices and what prepare made
-abbrev pub settingsOf : JointUnion → JointUnion
-settingsOf (Revolute r) = Revolute (R.withWritten r R.nothingWritten)
-settingsOf (Spherical r) = Spherical (S.withWritten r S.nothingWritten)
-settingsOf (Weld r) = Weld (W.withWritten r W.nothingWritten)
-settingsOf Other = Other
+abbrev pub recordSettings : JointUnion → JointUnion
+recordSettings (Revolute r) = Revolute (R.withWritten r R.nothingWritten)
+recordSettings (Spherical r) = Spherical (S.withWritten r S.nothingWritten)
+recordSettings (Weld r) = Weld (W.withWritten r W.nothingWritten)
+recordSettings Other = Other
 
--- of a joint nothing changes but what a solve writes
+-- a joint with all that a solve writes taken out: what its kind's record has of it, and C-11's two angles
+abbrev pub settingsOf : JointSim → JointSim
+settingsOf joint = jointSim (joint .base) (recordSettings (joint .«union_»)) noAngles
+
+-- of a joint nothing changes but what a solve writes: impulses, revolute's two perpendicular axes, and the two angles
 pub record OnlyImpulses (before after : JointSim) : Type 0 where
   pub base : after .base ≡ before .base
   pub case : caseOf (after .«union_») ≡ caseOf (before .«union_»)
   pub index-a : indexA (after .«union_») ≡ indexA (before .«union_»)
   pub index-b : indexB (after .«union_») ≡ indexB (before .«union_»)
-  pub settings : settingsOf (after .«union_») ≡ settingsOf (before .«union_»)
+  pub settings : settingsOf after ≡ settingsOf before
 
 -- `t` is `s` but for velocities of dynamic bodies that a listed joint names, and for what a solve writes of listed joints
 pub record OnlyChanges (s : Scene) (l : List Call) (t : Scene) : Type 0 where

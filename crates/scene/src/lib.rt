@@ -5,7 +5,7 @@ ghost use Rattle.scene.specs.Scene as D;
 use records::body::BodyState;
 use records::body::IDENTITY_BODY_STATE;
 use records::joint::JointSim;
-use records::joint::UNUSED_JOINT;
+use records::joint::unused_joint;
 use solver::StepContext;
 
 // At most 32 joints and 32 bodies, with a count of each, and one step context. A count is whatever
@@ -36,8 +36,9 @@ pub struct Run {
 pub fn empty_scene(context: StepContext) -> Scene
     ensures { λ r. ⌜ r ≡ D.emptyScene context ⌝ }
 {
+    let unused = unused_joint();
     Scene {
-        joints: [UNUSED_JOINT; 32],
+        joints: [unused; 32],
         bodies: [IDENTITY_BODY_STATE; 32],
         joint_count: 0,
         body_count: 0,

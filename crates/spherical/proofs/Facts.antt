@@ -6,6 +6,8 @@ use Prim.Native.Nat.{ℕ}
 use lib.Ieee.{Float}
 use lib.IntN.{ℤ}
 use Rattle.math_functions.specs.declared.types.Vec3.{Vec3}
+use Rattle.math_functions.specs.declared.types.Quat.{Quat}
+use Rattle.math_functions.specs.Quat.{getTwistAngle, getSwingAngle}
 use Rattle.solver.specs.declared.Softness.{Softness}
 use Rattle.solver.specs.declared.StepContext.{StepContext}
 use Rattle.records.specs.declared.body.BodyRecord.{BodyRecord}
@@ -13,20 +15,23 @@ use Rattle.records.specs.declared.body.BodyState.{BodyState}
 use Rattle.records.specs.Body.{withFlags, withDeltaPosition}
 use Rattle.records.specs.declared.joint.JointBase.{JointBase}
 use Rattle.records.specs.declared.joint.JointSim.{JointSim}
-use Rattle.records.specs.Joint.{asSpherical, isSpherical}
+use Rattle.records.specs.Joint.{asSpherical, isSpherical, limitAngles, noAngles}
 use Rattle.records.specs.declared.joint.SphericalJoint.{SphericalJoint}
 use Rattle.records.specs.Spherical.{withIndices}
 use Rattle.constraint.specs.declared.velocity.Velocities.{Velocities}
 use Rattle.constraint.specs.declared.velocity.InvMasses.{InvMasses}
+use Rattle.constraint.specs.declared.angular.AxialRow.{AxialRow}
 use Rattle.constraint.specs.declared.answer.Prepared.{Prepared}
 use Rattle.constraint.specs.declared.answer.WarmStarted.{WarmStarted}
 use Rattle.constraint.specs.declared.answer.Solved.{Solved}
 use Rattle.constraint.specs.Velocity.{velocitiesOf}
+use Rattle.constraint.specs.Angular.{isWorked, twistAngleIf, swingAngleIf, twistLimitRows}
 use Rattle.constraint.specs.Prepare.{prepareBase}
 use Rattle.constraint.specs.Answer.{notPrepared, notWarmStarted, notSolved}
 use Rattle.constraint.specs.Claims.{NonNegative, AtMostOne, BothOfKind}
 use Rattle.constraint.proofs.Facts.{worked, upperLimitRow-nonNegative, twist-lower-nonNegative, twist-upper-nonNegative}
 use Rattle.constraint.proofs.Facts.{zero-at-most, one-at-most, always, kept, numbered, refused, case-kept, accepted, both-of-kind}
+use Rattle.spherical.specs.Spherical.{twistLimit}
 use Rattle.spherical.specs.Spherical.{withImpulses, coneRow, jointRotation, solveSpring, solveMotor, solveLimits, solveCone, solveBias, solvePoint}
 use Rattle.spherical.specs.Spherical.{prepareSpherical, warmStartSpherical, sphericalSolved, solveSpherical}
 use Rattle.spherical.specs.Spherical.{prepareSphericalJoint, warmStartSphericalJoint, solveSphericalJoint}
@@ -75,13 +80,51 @@ module _ (base : JointBase) (j : SphericalJoint) (h invH : Float) (stateA stateB
   unfolding solveSpherical
   solve-keeps = refl
 
+  -- Beside the joint's record it stores the twist angle and the swing angle at which it worked the limits' rows, or NaN.
+  pub solve-angles :
+      let relQ = jointRotation j stateA stateB .«rel_q» in
+      solveSpherical base j h invH stateA stateB useBias .angles
+      ≡ limitAngles (twistAngleIf (isWorked (j .«enable_twist_limit») (base .«fixed_rotation»)) relQ)
+      (swingAngleIf (isWorked (j .«enable_cone_limit») (base .«fixed_rotation»)) relQ)
+  unfolding solveSpherical
+  solve-angles = refl
+
+-- ---- angles
+
+-- The rows of the two limits at the angles that are stored are those at the Rust's twist and swing angle: where they are not worked they read none.
+module _ (fixedRotation : Bool) (s : Softness) (j : SphericalJoint) (relQ : Quat) (invH : Float) (useBias : Bool) (m : InvMasses) (v : Velocities) where
+  pub limits-at-twist :
+      solveLimits fixedRotation s j (twistAngleIf (isWorked (j .«enable_twist_limit») fixedRotation) relQ) invH useBias m v
+      ≡ solveLimits fixedRotation s j (getTwistAngle relQ) invH useBias m v
+  unfolding solveLimits twistLimitRows twistAngleIf
+  limits-at-twist = go (isWorked (j .«enable_twist_limit») fixedRotation)
+    where
+      go : (worked : Bool)
+          → twistLimitRows worked (twistLimit j (twistAngleIf worked relQ)) s invH useBias m v
+          ≡ twistLimitRows worked (twistLimit j (getTwistAngle relQ)) s invH useBias m v
+      go true = refl
+      go false = refl
+
+  pub cone-at-swing :
+      solveCone fixedRotation s j (swingAngleIf (isWorked (j .«enable_cone_limit») fixedRotation) relQ) invH useBias m v
+      ≡ solveCone fixedRotation s j (getSwingAngle relQ) invH useBias m v
+  unfolding solveCone coneRow swingAngleIf
+  cone-at-swing = go (isWorked (j .«enable_cone_limit») fixedRotation)
+    where
+      row : Bool → Float → AxialRow
+      row worked angle = coneRow worked angle (j .«cone_angle») s invH useBias (j .«swing_mass») (j .«swing_axis») (j .«swing_impulse») m v
+
+      go : (worked : Bool) → row worked (swingAngleIf worked relQ) ≡ row worked (getSwingAngle relQ)
+      go true = refl
+      go false = refl
+
 -- ---- indices
 
 -- with other indices in the joint a solve leaves the same, with those indices in it
 pub solve-indices : (base : JointBase) (j : SphericalJoint) (h invH : Float) (stateA stateB : BodyState) (useBias : Bool) (indexA indexB : ℤ) →
     let next = solveSpherical base j h invH stateA stateB useBias in
     solveSpherical base (withIndices j indexA indexB) h invH stateA stateB useBias
-    ≡ sphericalSolved (withIndices (next .joint) indexA indexB) (next .velocities)
+    ≡ sphericalSolved (withIndices (next .joint) indexA indexB) (next .angles) (next .velocities)
 unfolding solveSpherical jointRotation solveSpring solveMotor solveLimits solveCone solveBias solvePoint
 solve-indices base j h invH stateA stateB useBias indexA indexB = refl
 
@@ -155,6 +198,11 @@ module _ (sim : JointSim) (context : StepContext) (bodyA bodyB : BodyRecord) whe
       accepted (λ (r : Prepared). r .number) (λ (r : Prepared). r .joint .base ≡ prepareBase (sim .base) bodyA bodyB) (asSpherical (sim .«union_»)) _ _
       refl (λ k. refl)
 
+  -- where the number is 0 both angles are NaN
+  pub prepare-angles : prepareSphericalJoint sim context bodyA bodyB .number ≡ 0 → prepareSphericalJoint sim context bodyA bodyB .joint .angles ≡ noAngles
+  unfolding prepareSphericalJoint
+  prepare-angles = accepted (λ (r : Prepared). r .number) (λ (r : Prepared). r .joint .angles ≡ noAngles) (asSpherical (sim .«union_»)) _ _ refl (λ k. refl)
+
 module _ (sim : JointSim) (stateA stateB : BodyState) where
   -- a warm start changes no field of the joint
   pub warm-start-joint : warmStartSphericalJoint sim stateA stateB .joint ≡ sim
@@ -177,7 +225,7 @@ module _ (sim : JointSim) (stateA stateB : BodyState) where
   warm-start-range = always (λ (r : WarmStarted). AtMostOne (r .number) (r .place)) (asSpherical (sim .«union_»)) _ _ one-at-most (λ k. zero-at-most)
 
 module _ (sim : JointSim) (context : StepContext) (stateA stateB : BodyState) (useBias : Bool) where
-  -- a solve changes nothing of the joint but the spherical record
+  -- a solve changes nothing of the joint but the spherical record and the two angles
   pub solve-base : solveSphericalJoint sim context stateA stateB useBias .joint .base ≡ sim .base
   unfolding solveSphericalJoint
   solve-base = kept (λ (r : Solved). r .joint .base) (sim .base) (asSpherical (sim .«union_»)) _ _ refl (λ k. refl)

@@ -9,7 +9,7 @@ use Rattle.math_functions.specs.declared.types.Matrix3.{Matrix3}
 use Rattle.math_functions.specs.Float.{_⊕_, _⊖_, _⊗_, _⊘_, gt, zero}
 use Rattle.math_functions.specs.Types.{vec3Zero, vec3AxisZ, mat3Zero}
 use Rattle.math_functions.specs.Vector.{add, sub, neg, length, normalize, mulAdd, mulSub, mulSv, cross}
-use Rattle.math_functions.specs.Quat.{rotateVector, invMulQuat, deltaQuatToRotation, getTwistAngle, getSwingAngle}
+use Rattle.math_functions.specs.Quat.{rotateVector, invMulQuat, deltaQuatToRotation}
 use Rattle.math_functions.specs.Matrix.{addMm, mulMv, invertMatrix, solve3}
 use Rattle.math_functions.specs.Transform.{subPos}
 use Rattle.solver.specs.declared.Softness.{Softness}
@@ -18,10 +18,11 @@ use Rattle.solver.specs.Solver.{makeSoft}
 use Rattle.records.specs.declared.body.BodyRecord.{BodyRecord}
 use Rattle.records.specs.declared.body.BodyState.{BodyState}
 use Rattle.records.specs.declared.joint.JointBase.{JointBase}
+use Rattle.records.specs.declared.joint.LimitAngles.{LimitAngles}
 use Rattle.records.specs.declared.joint.JointSim.{JointSim}
 use Rattle.records.specs.declared.joint.JointUnion.the-variants.{Spherical}
 use Rattle.records.specs.declared.joint.SphericalJoint.{SphericalJoint}
-use Rattle.records.specs.Joint.{asSpherical, jointSim, afterStage}
+use Rattle.records.specs.Joint.{asSpherical, limitAngles, noAngles, jointSim, afterSolve}
 use Rattle.records.specs.Spherical.{Made, built, writtenOf, settingsOf, withWritten}
 use Rattle.constraint.specs.declared.velocity.Velocities.{Velocities}
 use Rattle.constraint.specs.declared.velocity.InvMasses.{InvMasses}
@@ -36,7 +37,7 @@ use Rattle.constraint.specs.declared.answer.Solved.{Solved}
 use Rattle.constraint.specs.Velocity.{velocitiesOf, invMassesOf, applyAngular, applyPoint, applyWarm}
 use Rattle.constraint.specs.Soft.{softBias3, limitBias, softImpulse3}
 use Rattle.constraint.specs.Rotation.{relativeRotation}
-use Rattle.constraint.specs.Angular.{axialRow, row3, isWorked, upperLimitRow, angularRow, TwistLimit, twistLimitRows}
+use Rattle.constraint.specs.Angular.{axialRow, row3, isWorked, twistAngleIf, swingAngleIf, upperLimitRow, angularRow, TwistLimit, twistLimitRows}
 use Rattle.constraint.specs.Point.{pointBias, pointMass, pointCdot}
 use Rattle.constraint.specs.Prepare.{prepareBase, awakeIndex, prepareFrame, axialMass}
 use Rattle.constraint.specs.Answer.{prepared, notPrepared, warmStarted, notWarmStarted, solved, notSolved}
@@ -227,10 +228,11 @@ solvePoint softness j stateA stateB useBias m v =
     let rB = rotateVector (stateB .«delta_rotation») (j .«frame_b» .p) in
     pointRow (solveBias softness j rA rB stateA stateB useBias) rA rB (j .«linear_impulse») m v
 
-abbrev pub sphericalSolved : SphericalJoint → Velocities → SphericalSolved
-sphericalSolved joint velocities = record { joint = joint; velocities = velocities }
+abbrev pub sphericalSolved : SphericalJoint → LimitAngles → Velocities → SphericalSolved
+sphericalSolved joint angles velocities = record { joint = joint; angles = angles; velocities = velocities }
 
--- document 01's rows of a spherical solve, in order: spring, motor, lower and upper twist, cone, point
+-- document 01's rows of a spherical solve, in order: spring, motor, lower and upper twist, cone, point. C-11: the angles of the twist limit's rows and of the
+-- cone's are stored
 unfoldable pub solveSpherical : JointBase → SphericalJoint → Float → Float → BodyState → BodyState → Bool → SphericalSolved
 solveSpherical base j h invH stateA stateB useBias =
     let m = invMassesOf base in
@@ -240,24 +242,27 @@ solveSpherical base j h invH stateA stateB useBias =
     let relQ = rotation .«rel_q» in
     let spring = solveSpring fixedRotation j rotation m (velocitiesOf stateA stateB) in
     let motor = solveMotor fixedRotation j h m (spring .velocities) in
-    let limits = solveLimits fixedRotation softness j (getTwistAngle relQ) invH useBias m (motor .velocities) in
-    let cone = solveCone fixedRotation softness j (getSwingAngle relQ) invH useBias m (limits .velocities) in
+    let twist = twistAngleIf (isWorked (j .«enable_twist_limit») fixedRotation) relQ in
+    let swing = swingAngleIf (isWorked (j .«enable_cone_limit») fixedRotation) relQ in
+    let limits = solveLimits fixedRotation softness j twist invH useBias m (motor .velocities) in
+    let cone = solveCone fixedRotation softness j swing invH useBias m (limits .velocities) in
     let point = solvePoint softness j stateA stateB useBias m (cone .velocities) in
     sphericalSolved
     (withImpulses j (point .impulse) (spring .impulse) (motor .impulse) (limits .«lower_impulse») (limits .«upper_impulse») (cone .impulse))
+    (limitAngles twist swing)
     (point .velocities)
 
 -- ==== The stages over a joint of any kind
 
 -- A joint whose case is not Spherical gets number 1, place 0, and nothing is altered.
 
--- of the context h and enable_warm_starting
+-- of the context h and enable_warm_starting. C-11: 'prepare stores NaN in both'
 unfoldable pub prepareSphericalJoint : JointSim → StepContext → BodyRecord → BodyRecord → Prepared
 prepareSphericalJoint sim context bodyA bodyB =
     Option·elim (asSpherical (sim .«union_»)) (notPrepared sim) λ j.
     let deltaCenter = subPos (bodyB .center) (bodyA .center) in
     let r = prepareSpherical (sim .base) j (context .h) (context .«enable_warm_starting») deltaCenter bodyA bodyB in
-    prepared (jointSim (r .base) (Spherical (r .joint)))
+    prepared (jointSim (r .base) (Spherical (r .joint)) noAngles)
 
 unfoldable pub warmStartSphericalJoint : JointSim → BodyState → BodyState → WarmStarted
 warmStartSphericalJoint sim stateA stateB =
@@ -268,4 +273,4 @@ unfoldable pub solveSphericalJoint : JointSim → StepContext → BodyState → 
 solveSphericalJoint sim context stateA stateB useBias =
     Option·elim (asSpherical (sim .«union_»)) (notSolved sim stateA stateB) λ j.
     let r = solveSpherical (sim .base) j (context .h) (context .«inv_h») stateA stateB useBias in
-    solved (afterStage sim (Spherical (r .joint))) (r .velocities)
+    solved (afterSolve sim (Spherical (r .joint)) (r .angles)) (r .velocities)

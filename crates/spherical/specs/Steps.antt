@@ -1,9 +1,7 @@
 -- Steps of the code that the Rust does not have. No definition that is written from the Rust cites them. Definitions only. Assumes nothing.
-use mathlib.Core.Bool.{Bool, true, not, cond}
+use mathlib.Core.Bool.{Bool, true, cond}
 use lib.Ieee.{Float}
-use Rattle.math_functions.specs.declared.types.Quat.{Quat}
-use Rattle.math_functions.specs.Float.{_⊘_, gt, zero, one}
-use Rattle.math_functions.specs.Quat.{getTwistAngle, getSwingAngle}
+use Rattle.math_functions.specs.Float.{_⊘_, gt, one}
 use Rattle.solver.specs.declared.Softness.{Softness}
 use Rattle.records.specs.declared.joint.SphericalJoint.{SphericalJoint}
 use Rattle.constraint.specs.declared.velocity.Velocities.{Velocities}
@@ -15,13 +13,6 @@ use Rattle.spherical.specs.Spherical.{twistLimit}
 -- by how much `limitLength` scales, where one times a number is that number
 unfoldable pub limitScale : Float → Float → Float
 limitScale len maxImpulse = cond (gt len maxImpulse) (maxImpulse ⊘ len) one
-
--- an angle that is taken ahead of its row, and only where the row is worked
-unfoldable pub twistAngleIf : Bool → Quat → Float
-twistAngleIf worked relQ = cond (not worked) zero (getTwistAngle relQ)
-
-unfoldable pub swingAngleIf : Bool → Quat → Float
-swingAngleIf worked relQ = cond (not worked) zero (getSwingAngle relQ)
 
 -- the twist limit's rows, where they are worked
 unfoldable pub limitRowsAt : Softness → SphericalJoint → Float → Float → Bool → InvMasses → Velocities → LimitRows

@@ -21,7 +21,9 @@ use records::body::BodyState;
 use records::joint::JointBase;
 use records::joint::JointSim;
 use records::joint::JointUnion;
+use records::joint::LimitAngles;
 use records::joint::SphericalJoint;
+use records::joint::no_angles;
 use solver::StepContext;
 
 mod prepare;
@@ -30,12 +32,13 @@ mod solve;
 mod warm_start;
 
 // A joint of this kind.
-fn spherical_sim(base: JointBase, joint: SphericalJoint) -> JointSim
-    ensures { λ r. ⌜ r ≡ jointSim base (Spherical joint) ⌝ }
+fn spherical_sim(base: JointBase, joint: SphericalJoint, angles: LimitAngles) -> JointSim
+    ensures { λ r. ⌜ r ≡ jointSim base (Spherical joint) angles ⌝ }
 {
     JointSim {
         base,
         union_: JointUnion::Spherical(joint),
+        angles,
     }
 }
 
@@ -66,7 +69,7 @@ pub fn prepare_spherical_joint(
         body_a,
         body_b,
     );
-    joint = spherical_sim(p.base, p.joint);
+    joint = spherical_sim(p.base, p.joint, no_angles());
     Prepared {
         number: 0,
         place: 0,
@@ -119,7 +122,7 @@ pub fn solve_spherical_joint(
         use_bias,
     );
     let velocities = s.velocities;
-    joint = spherical_sim(joint.base, s.joint);
+    joint = spherical_sim(joint.base, s.joint, s.angles);
     Solved {
         number: 0,
         place: 0,

@@ -26,8 +26,6 @@ use math_functions::matrix::negate_mat3;
 use math_functions::matrix::skew;
 use math_functions::matrix::solve3;
 use math_functions::quat::delta_quat_to_rotation;
-use math_functions::quat::get_swing_angle;
-use math_functions::quat::get_twist_angle;
 use math_functions::quat::rotate_vector;
 use math_functions::types::Matrix3;
 use math_functions::types::Quat;
@@ -118,26 +116,6 @@ pub fn motor_row(
         impulse,
         velocities,
     }
-}
-
-// The angles of the twist limits and of the cone, where their rows are worked. They wait for no
-// velocity, so a solve takes the cone's a row ahead.
-pub fn twist_angle_if(worked: bool, rel_q: Quat) -> f32
-    ensures { λ r. ⌜ r ≡ Steps.twistAngleIf worked «rel_q» ⌝ }
-{
-    if !worked {
-        return 0.0;
-    }
-    get_twist_angle(rel_q)
-}
-
-pub fn swing_angle_if(worked: bool, rel_q: Quat) -> f32
-    ensures { λ r. ⌜ r ≡ Steps.swingAngleIf worked «rel_q» ⌝ }
-{
-    if !worked {
-        return 0.0;
-    }
-    get_swing_angle(rel_q)
 }
 
 // The cone: an upper limit of the swing angle.

@@ -6,14 +6,14 @@ use crate::rows::cone_row;
 use crate::rows::motor_row;
 use crate::rows::point_row;
 use crate::rows::spring_row;
-use crate::rows::swing_angle_if;
-use crate::rows::twist_angle_if;
 use constraint::angular::AxialRow;
 use constraint::angular::LimitRows;
 use constraint::angular::Row3;
 use constraint::angular::is_worked;
 use constraint::angular::limit_rows;
 use constraint::angular::lower_limit_sum;
+use constraint::angular::swing_angle_if;
+use constraint::angular::twist_angle_if;
 use constraint::angular::upper_limit_sum;
 use constraint::angular::upper_row_to;
 use constraint::point::point_bias;
@@ -30,12 +30,14 @@ use math_functions::quat::rotate_vector;
 use math_functions::types::Vec3;
 use records::body::BodyState;
 use records::joint::JointBase;
+use records::joint::LimitAngles;
 use records::joint::SphericalJoint;
 use solver::Softness;
 
 // What a solve leaves.
 pub struct SphericalSolved {
     pub joint: SphericalJoint,
+    pub angles: LimitAngles,
     pub velocities: Velocities,
 }
 
@@ -226,13 +228,22 @@ pub fn solve_spherical(
     let s = base.constraint_softness;
     let spring = solve_spring(fixed, joint, rotation, m, v);
     let motor = solve_motor(fixed, joint, h, m, spring.velocities);
-    let angle = twist_angle_if(is_worked(joint.enable_twist_limit, fixed), rotation.rel_q);
+    let twist = twist_angle_if(is_worked(joint.enable_twist_limit, fixed), rotation.rel_q);
     let swing = swing_angle_if(is_worked(joint.enable_cone_limit, fixed), rotation.rel_q);
-    let twist = solve_limits(fixed, s, joint, angle, inv_h, use_bias, m, motor.velocities);
+    let limits = solve_limits(fixed, s, joint, twist, inv_h, use_bias, m, motor.velocities);
     let r_a = rotate_vector(state_a.delta_rotation, joint.frame_a.p);
     let r_b = rotate_vector(state_b.delta_rotation, joint.frame_b.p);
     let bias = solve_bias(s, joint, r_a, r_b, state_a, state_b, use_bias);
-    let cone = solve_cone(fixed, s, joint, swing, inv_h, use_bias, m, twist.velocities);
+    let cone = solve_cone(
+        fixed,
+        s,
+        joint,
+        swing,
+        inv_h,
+        use_bias,
+        m,
+        limits.velocities,
+    );
     let point = point_row(bias, r_a, r_b, joint.linear_impulse, m, cone.velocities);
 
     let linear_impulse = point.impulse;
@@ -242,8 +253,12 @@ pub fn solve_spherical(
     joint.linear_impulse = linear_impulse;
     joint.spring_impulse = spring_impulse;
     joint.motor_impulse = motor_impulse;
-    joint.lower_twist_impulse = twist.lower_impulse;
-    joint.upper_twist_impulse = twist.upper_impulse;
+    joint.lower_twist_impulse = limits.lower_impulse;
+    joint.upper_twist_impulse = limits.upper_impulse;
     joint.swing_impulse = cone.impulse;
-    SphericalSolved { joint, velocities }
+    SphericalSolved {
+        joint,
+        angles: LimitAngles { twist, swing },
+        velocities,
+    }
 }

@@ -12,7 +12,7 @@ use Rattle.records.specs.declared.joint.WeldJoint.{WeldJoint}
 use Rattle.records.specs.declared.joint.JointBase.{JointBase}
 use Rattle.records.specs.declared.joint.JointSim.{JointSim}
 use Rattle.records.specs.Weld.{withIndices}
-use Rattle.records.specs.Joint.{asWeld, isWeld}
+use Rattle.records.specs.Joint.{asWeld, isWeld, noAngles}
 use Rattle.constraint.specs.declared.answer.Prepared.{Prepared}
 use Rattle.constraint.specs.declared.answer.WarmStarted.{WarmStarted}
 use Rattle.constraint.specs.declared.answer.Solved.{Solved}
@@ -101,6 +101,11 @@ module _ (sim : JointSim) (c : StepContext) (bodyA bodyB : BodyRecord) where
       accepted (λ (r : Prepared). r .number) (λ (r : Prepared). r .joint .base ≡ prepareBase (sim .base) bodyA bodyB) (asWeld (sim .«union_»)) _ _
       refl (λ k. refl)
 
+  -- where the number is 0 both angles are NaN
+  pub prepare-angles : prepareWeldJoint sim c bodyA bodyB .number ≡ 0 → prepareWeldJoint sim c bodyA bodyB .joint .angles ≡ noAngles
+  unfolding prepareWeldJoint
+  prepare-angles = accepted (λ (r : Prepared). r .number) (λ (r : Prepared). r .joint .angles ≡ noAngles) (asWeld (sim .«union_»)) _ _ refl (λ k. refl)
+
 module _ (sim : JointSim) (a b : BodyState) where
   -- a warm start changes no field of the joint, so base and case are as they were
   pub warm-start-joint : warmStartWeldJoint sim a b .joint ≡ sim
@@ -123,10 +128,15 @@ module _ (sim : JointSim) (a b : BodyState) where
   warm-start-range = always (λ (r : WarmStarted). AtMostOne (r .number) (r .place)) (asWeld (sim .«union_»)) _ _ one-at-most (λ k. zero-at-most)
 
 module _ (sim : JointSim) (c : StepContext) (a b : BodyState) (useBias : Bool) where
-  -- a solve changes nothing of the joint but the weld record
+  -- a solve changes nothing of the joint but the weld record and the two angles
   pub solve-base : solveWeldJoint sim c a b useBias .joint .base ≡ sim .base
   unfolding solveWeldJoint
   solve-base = kept (λ (r : Solved). r .joint .base) (sim .base) (asWeld (sim .«union_»)) _ _ refl (λ k. refl)
+
+  -- and where its number is 0 it leaves NaN in both: a weld has no limit row
+  pub solve-angles : solveWeldJoint sim c a b useBias .number ≡ 0 → solveWeldJoint sim c a b useBias .joint .angles ≡ noAngles
+  unfolding solveWeldJoint
+  solve-angles = accepted (λ (r : Solved). r .number) (λ (r : Solved). r .joint .angles ≡ noAngles) (asWeld (sim .«union_»)) _ _ refl (λ k. refl)
 
   -- a weld joint stays one, and no other becomes one (another case stays itself, by `solve-refused`)
   pub solve-case : isWeld (solveWeldJoint sim c a b useBias .joint .«union_») ≡ isWeld (sim .«union_»)

@@ -20,7 +20,7 @@ use Rattle.records.specs.declared.joint.JointBase.{JointBase}
 use Rattle.records.specs.declared.joint.JointSim.{JointSim}
 use Rattle.records.specs.declared.joint.JointUnion.the-variants.{Weld}
 use Rattle.records.specs.Weld.{built, writtenOf, settingsOf, withWritten}
-use Rattle.records.specs.Joint.{asWeld, jointSim, afterStage}
+use Rattle.records.specs.Joint.{asWeld, noAngles, jointSim, afterSolve}
 use Rattle.constraint.specs.declared.velocity.Velocities.{Velocities}
 use Rattle.constraint.specs.declared.velocity.InvMasses.{InvMasses}
 use Rattle.constraint.specs.declared.soft.SoftBias3.{SoftBias3}
@@ -150,21 +150,21 @@ solveWeld base j stateA stateB useBias =
 
 -- A joint whose case is not Weld gets number 1, place 0, and nothing is altered.
 
--- of the context h and enable_warm_starting
+-- of the context h and enable_warm_starting. C-11: 'prepare stores NaN in both'
 unfoldable pub prepareWeldJoint : JointSim → StepContext → BodyRecord → BodyRecord → Prepared
 prepareWeldJoint sim context bodyA bodyB =
     Option·elim (asWeld (sim .«union_»)) (notPrepared sim) λ j.
     let deltaCenter = subPos (bodyB .center) (bodyA .center) in
     let r = prepareWeld (sim .base) j (context .h) (context .«enable_warm_starting») deltaCenter bodyA bodyB in
-    prepared (jointSim (r .base) (Weld (r .joint)))
+    prepared (jointSim (r .base) (Weld (r .joint)) noAngles)
 
 unfoldable pub warmStartWeldJoint : JointSim → BodyState → BodyState → WarmStarted
 warmStartWeldJoint sim stateA stateB =
     Option·elim (asWeld (sim .«union_»)) (notWarmStarted sim stateA stateB) λ j. warmStarted sim (warmStartWeld (sim .base) j stateA stateB)
 
--- of the context nothing
+-- of the context nothing. C-11: a weld has no limit row, so that its solve stores NaN in both
 unfoldable pub solveWeldJoint : JointSim → StepContext → BodyState → BodyState → Bool → Solved
 solveWeldJoint sim context stateA stateB useBias =
     Option·elim (asWeld (sim .«union_»)) (notSolved sim stateA stateB) λ j.
     let r = solveWeld (sim .base) j stateA stateB useBias in
-    solved (afterStage sim (Weld (r .joint))) (r .velocities)
+    solved (afterSolve sim (Weld (r .joint)) noAngles) (r .velocities)

@@ -22,7 +22,9 @@ use records::body::BodyState;
 use records::joint::JointBase;
 use records::joint::JointSim;
 use records::joint::JointUnion;
+use records::joint::LimitAngles;
 use records::joint::WeldJoint;
+use records::joint::no_angles;
 use solver::StepContext;
 
 mod prepare;
@@ -31,12 +33,13 @@ mod solve;
 mod warm_start;
 
 // A joint of this kind.
-fn weld_sim(base: JointBase, joint: WeldJoint) -> JointSim
-    ensures { λ r. ⌜ r ≡ jointSim base (Weld joint) ⌝ }
+fn weld_sim(base: JointBase, joint: WeldJoint, angles: LimitAngles) -> JointSim
+    ensures { λ r. ⌜ r ≡ jointSim base (Weld joint) angles ⌝ }
 {
     JointSim {
         base,
         union_: JointUnion::Weld(joint),
+        angles,
     }
 }
 
@@ -67,7 +70,7 @@ pub fn prepare_weld_joint(
         body_a,
         body_b,
     );
-    joint = weld_sim(p.base, p.joint);
+    joint = weld_sim(p.base, p.joint, no_angles());
     Prepared {
         number: 0,
         place: 0,
@@ -108,7 +111,7 @@ pub fn solve_weld_joint(
     };
     let s = solve_weld(joint.base, k, state_a, state_b, use_bias);
     let velocities = s.velocities;
-    joint = weld_sim(joint.base, s.joint);
+    joint = weld_sim(joint.base, s.joint, no_angles());
     Solved {
         number: 0,
         place: 0,

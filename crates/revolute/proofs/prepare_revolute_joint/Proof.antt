@@ -16,11 +16,12 @@ returns c =
 returns-2 : tie.Need-returns-2
 unfolding prepareRevoluteJoint Option·elim
 returns-2 c = rw (
-  c .before .before .before .before .u .given .1,
-  ← (c .before .before .sub-pos .ensures),
-  ← (c .before .prepare-revolute .ensures),
+  c .before .before .before .before .before .u .given .1,
+  ← (c .before .before .before .sub-pos .ensures),
+  ← (c .before .before .prepare-revolute .ensures),
+  ← (c .before .no-angles .ensures),
   ← (c .revolute-sim .ensures),
 )
 
 pub prepare-revolute-joint-spec : {M : Type 1} → statement M
-prepare-revolute-joint-spec = tie.close (tie.spec (λ c. search needs) returns (λ c κs. tt) (λ c κs. tt) (λ c κs. tt) returns-2)
+prepare-revolute-joint-spec = tie.close (tie.spec (λ c. search needs) returns (λ c κs. tt) (λ c κs. tt) (λ c κs. tt) (λ c κs. tt) returns-2)

@@ -15,11 +15,12 @@ returns c =
 returns-2 : tie.Need-returns-2
 unfolding prepareWeldJoint Option·elim
 returns-2 c = rw (
-  c .before .before .before .before .u .given .1,
-  ← (c .before .before .sub-pos .ensures),
-  ← (c .before .prepare-weld .ensures),
+  c .before .before .before .before .before .u .given .1,
+  ← (c .before .before .before .sub-pos .ensures),
+  ← (c .before .before .prepare-weld .ensures),
+  ← (c .before .no-angles .ensures),
   ← (c .weld-sim .ensures),
 )
 
 pub prepare-weld-joint-spec : {M : Type 1} → statement M
-prepare-weld-joint-spec = tie.close (tie.spec (λ c. search needs) returns (λ c κs. tt) (λ c κs. tt) (λ c κs. tt) returns-2)
+prepare-weld-joint-spec = tie.close (tie.spec (λ c. search needs) returns (λ c κs. tt) (λ c κs. tt) (λ c κs. tt) (λ c κs. tt) returns-2)

@@ -14,7 +14,12 @@ returns c =
 
 returns-2 : tie.Need-returns-2
 unfolding solveWeldJoint Option·elim
-returns-2 c = rw (c .before .before .before .before .u .given .1, ← (c .before .before .solve-weld .ensures), ← (c .weld-sim .ensures))
+returns-2 c = rw (
+  c .before .before .before .before .before .u .given .1,
+  ← (c .before .before .before .solve-weld .ensures),
+  ← (c .before .no-angles .ensures),
+  ← (c .weld-sim .ensures),
+)
 
 pub solve-weld-joint-spec : {M : Type 1} → statement M
-solve-weld-joint-spec = tie.close (tie.spec (λ c. search needs) (λ c κs. tt) returns (λ c κs. tt) (λ c κs. tt) returns-2)
+solve-weld-joint-spec = tie.close (tie.spec (λ c. search needs) (λ c κs. tt) returns (λ c κs. tt) (λ c κs. tt) (λ c κs. tt) returns-2)

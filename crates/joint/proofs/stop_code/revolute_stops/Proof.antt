@@ -4,6 +4,5 @@ use Rattle.joint.proofs.stop_code.revolute_stops.Tie as tie
 
 pub revolute-stops-spec : {M : Type 1} → statement M
 unfolding revoluteStops
-revolute-stops-spec =
-    tie.close (tie.spec (λ c κs. tt) (λ c κs. tt) (λ c κs. tt)
-    (λ c. rw (← (c .before .before .is-pushing .ensures), ← (c .before .is-pushing2 .ensures), ← (c .sum-stops .ensures))))
+revolute-stops-spec = tie.close (tie.spec (λ c κs. tt) (λ c κs. tt) (λ c κs. tt)
+    (λ c. rw (← (c .before .before .is-at-lower .ensures), ← (c .before .is-at-upper .ensures), ← (c .sum-stops .ensures))))

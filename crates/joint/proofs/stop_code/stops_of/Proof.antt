@@ -13,13 +13,21 @@ returns-2 c = rw (c .before .before .before .union-2 .given .1, ← (c .found3 .
 
 returns-3 : tie.Need-returns-3
 unfolding stopsOf
-returns-3 c =
-    rw (c .before .before .before .before .union- .given .1, ← (c .before .revolute-stops .ensures), ← (c .found2 .ensures), c .before .before .if1 .left)
+returns-3 c = rw (
+  c .before .before .before .before .union- .given .1,
+  ← (c .before .revolute-stops .ensures),
+  ← (c .found2 .ensures),
+  c .before .before .if1 .left,
+)
 
 returns-4 : tie.Need-returns-4
 unfolding stopsOf
-returns-4 c =
-    rw (c .before .before .before .before .union-2 .given .1, ← (c .before .spherical-stops .ensures), ← (c .found4 .ensures), c .before .before .if2 .left)
+returns-4 c = rw (
+  c .before .before .before .before .union-2 .given .1,
+  ← (c .before .spherical-stops .ensures),
+  ← (c .found4 .ensures),
+  c .before .before .if2 .left,
+)
 
 returns-5 : tie.Need-returns-5
 unfolding stopsOf
@@ -30,6 +38,5 @@ unfolding stopsOf
 returns-6 c = rw (c .enum-told2 .given .1)
 
 pub stops-of-spec : {M : Type 1} → statement M
-stops-of-spec =
-    tie.close (tie.spec (λ c. search needs) (λ c κs. tt) returns (λ c κs. tt) (λ c κs. tt) (λ c. search needs) (λ c κs. tt) returns-2 (λ c κs. tt)
+stops-of-spec = tie.close (tie.spec (λ c. search needs) (λ c κs. tt) returns (λ c κs. tt) (λ c κs. tt) (λ c. search needs) (λ c κs. tt) returns-2 (λ c κs. tt)
     (λ c κs. tt) (λ c. search needs) (λ c κs. tt) (λ c. search needs) returns-3 returns-4 returns-5 returns-6)

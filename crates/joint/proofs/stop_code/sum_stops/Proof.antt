@@ -21,20 +21,20 @@ module _ (c : lts.Joined3 reads.Pre reads.Post) where
   abbrev upper : Bool
   upper = c .before .before .before .args .upper
 
-  abbrev swing : Bool
-  swing = c .before .before .before .args .swing
+  abbrev cone : Bool
+  cone = c .before .before .before .args .cone
 
-  low : c .before .before .if1 .low ≡ cond lower 1 0
-  low = ⊎-elim (λ w. rw (w .0 .taken, w .1)) (λ w. rw (w .0 .left, w .1)) (c .before .before .if1 .came)
+  at-lower : c .before .before .if1 .at-lower ≡ cond lower 1 0
+  at-lower = ⊎-elim (λ w. rw (w .0 .taken, w .1)) (λ w. rw (w .0 .left, w .1)) (c .before .before .if1 .came)
 
-  high : c .before .if2 .high ≡ cond upper 2 0
-  high = ⊎-elim (λ w. rw (w .0 .taken, w .1)) (λ w. rw (w .0 .left, w .1)) (c .before .if2 .came)
+  at-upper : c .before .if2 .at-upper ≡ cond upper 2 0
+  at-upper = ⊎-elim (λ w. rw (w .0 .taken, w .1)) (λ w. rw (w .0 .left, w .1)) (c .before .if2 .came)
 
-  cone : c .if3 .cone ≡ cond swing 4 0
-  cone = ⊎-elim (λ w. rw (w .0 .taken, w .1)) (λ w. rw (w .0 .left, w .1)) (c .if3 .came)
+  at-cone : c .if3 .at-cone ≡ cond cone 4 0
+  at-cone = ⊎-elim (λ w. rw (w .0 .taken, w .1)) (λ w. rw (w .0 .left, w .1)) (c .if3 .came)
 
-  bounds : (c .before .before .if1 .low ≤ 1) × (c .before .if2 .high ≤ 2) × (c .if3 .cone ≤ 4)
-  bounds = (at-most lower 1 _ low, at-most upper 2 _ high, at-most swing 4 _ cone)
+  bounds : (c .before .before .if1 .at-lower ≤ 1) × (c .before .if2 .at-upper ≤ 2) × (c .if3 .at-cone ≤ 4)
+  bounds = (at-most lower 1 _ at-lower, at-most upper 2 _ at-upper, at-most cone 4 _ at-cone)
 
 add-result : tie.Need-add-result
 add-result c = let b = bounds (c .before .before) in omega (arith, b .0, b .1)
@@ -44,7 +44,7 @@ add-result-2 c = let b = bounds (c .before .before .before) in omega (arith, b .
 
 returns : tie.Need-returns
 unfolding sumStops
-returns c = let j = c .before .before .before in rw (← (low j), ← (high j), ← (cone j))
+returns c = let j = c .before .before .before in rw (← (at-lower j), ← (at-upper j), ← (at-cone j))
 
 pub sum-stops-spec : {M : Type 1} → statement M
 sum-stops-spec = tie.close (tie.spec add-result add-result-2 returns)

@@ -1,0 +1,14 @@
+use Rattle.joint.specs.StopCode.{isAtUpper}
+use Rattle.joint.proofs.stop_code.is_at_upper.Statement.{statement}
+use Rattle.joint.proofs.stop_code.is_at_upper.Tie as tie
+
+returns : tie.Need-returns
+unfolding isAtUpper
+returns c = rw (← (c .before .is-pushing .ensures), c .if1 .taken)
+
+returns-2 : tie.Need-returns-2
+unfolding isAtUpper
+returns-2 c = rw (← (c .before .is-pushing .ensures), c .if1 .left)
+
+pub is-at-upper-spec : {M : Type 1} → statement M
+is-at-upper-spec = tie.close (tie.spec (λ c κs. tt) returns returns-2)
