@@ -1,7 +1,7 @@
 -- The figures of the captions' false sentences are what the definitions give. Assumes nothing.
 use mathlib.Core.Path.{refl}
 use lib.Ieee.{isNan}
-use Rattle.joint.specs.StopCode as Stops
+use Rattle.stop_code.specs.StopCode as Stops
 use Rattle.scene.specs.Plain as Plain
 use Rattle.scene.specs.Chain.{chain}
 use Rattle.examples.specs.Captions.{Shown}

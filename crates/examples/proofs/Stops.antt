@@ -1,7 +1,7 @@
 -- The stop codes of specs/Stops.antt are what the definition gives: the checker computes each. Assumes nothing.
 use mathlib.Core.Path.{refl}
 use lib.Ieee as Ieee
-use Rattle.joint.specs.StopCode as Stops
+use Rattle.stop_code.specs.StopCode as Stops
 use Rattle.examples.specs.Stops.{HingeStops, BallStops, OtherStops}
 
 pub hinge-stops : HingeStops

@@ -21,7 +21,7 @@ use Rattle.records.specs.Spherical.{defaultSpherical, withSettings}
 use Rattle.records.specs.Joint.{noAngles, unusedJoint, jointSim}
 use Rattle.revolute.specs.Revolute.{prepareRevoluteJoint}
 use Rattle.spherical.specs.Spherical.{prepareSphericalJoint}
-use Rattle.joint.specs.StopCode.{stopCode}
+use Rattle.stop_code.specs.StopCode.{stopCode}
 use Rattle.scene.specs.declared.Scene.{Scene}
 use Rattle.scene.specs.declared.Run.{Run}
 use Rattle.scene.specs.Scene.{jointAt, bodyAt}

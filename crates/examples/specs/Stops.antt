@@ -15,7 +15,7 @@ use Rattle.records.specs.Weld.{defaultWeld}
 use Rattle.records.specs.Joint.{limitAngles, jointSim}
 use Rattle.revolute.specs.Revolute as R
 use Rattle.spherical.specs.Spherical as S
-use Rattle.joint.specs.StopCode.{stopCode}
+use Rattle.stop_code.specs.StopCode.{stopCode}
 use Rattle.examples.specs.Joints.{hinge}
 
 -- 0.25, the float below it and the float above it

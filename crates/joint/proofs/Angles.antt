@@ -18,12 +18,12 @@ use Rattle.weld.specs.Weld.{solveWeldJoint}
 use Rattle.revolute.proofs.Facts as Revolute-facts
 use Rattle.spherical.proofs.Facts as Spherical-facts
 use Rattle.weld.proofs.Facts as Weld-facts
+use Rattle.stop_code.specs.StopCode.{stopCode}
+use Rattle.stop_code.proofs.Stops.{no-stops}
 use Rattle.joint.specs.Prepare.{prepareAs}
 use Rattle.joint.specs.Stage.{solveAs}
-use Rattle.joint.specs.StopCode.{stopCode}
 use Rattle.joint.specs.Claims.{Stored, SolveStores, WarmStartKeepsCode, PreparedCode}
 use Rattle.joint.proofs.Stages.{warm-start-joint}
-use Rattle.joint.proofs.Stops.{no-stops}
 
 -- an angle that is kept where a row is worked
 stored : (worked : Bool) (angle : Float) → Stored worked angle (cond worked angle nan)
@@ -57,9 +57,15 @@ module _ (joint : JointSim) (context : StepContext) (bodyA bodyB : BodyRecord) w
   -- a joint of one of the three kinds is prepared
   code-of : (u : JointUnion) → joint .«union_» ≡ u → stopCode (prepareAs u joint context bodyA bodyB .joint) .code ≡ 0
   unfolding prepareAs
-  code-of (Revolute j) e = no-stops _ .no-angles (angles-of (Revolute j) (Revolute-facts.prepare-number joint context bodyA bodyB ∙ ap (λ u. cond (isRevolute u) 0 1) e))
-  code-of (Spherical j) e = no-stops _ .no-angles (angles-of (Spherical j) (Spherical-facts.prepare-number joint context bodyA bodyB ∙ ap (λ u. cond (isSpherical u) 0 1) e))
-  code-of (Weld j) e = no-stops _ .no-angles (angles-of (Weld j) (Weld-facts.prepare-number joint context bodyA bodyB ∙ ap (λ u. cond (isWeld u) 0 1) e))
+  code-of (Revolute j) e =
+      let done = Revolute-facts.prepare-number joint context bodyA bodyB ∙ ap (λ u. cond (isRevolute u) 0 1) e in
+      no-stops _ .no-angles (angles-of (Revolute j) done)
+  code-of (Spherical j) e =
+      let done = Spherical-facts.prepare-number joint context bodyA bodyB ∙ ap (λ u. cond (isSpherical u) 0 1) e in
+      no-stops _ .no-angles (angles-of (Spherical j) done)
+  code-of (Weld j) e =
+      let done = Weld-facts.prepare-number joint context bodyA bodyB ∙ ap (λ u. cond (isWeld u) 0 1) e in
+      no-stops _ .no-angles (angles-of (Weld j) done)
   code-of Other e = no-stops joint .refused e
 
 pub prepared-code : PreparedCode

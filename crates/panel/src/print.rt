@@ -1,5 +1,4 @@
 // Printing for a panel: numbers with three decimals.
-use joint::stop_code::stop_code;
 use libc::STDOUT_FILENO;
 use math_functions::types::Vec3;
 use records::body::BodyState;
@@ -8,6 +7,7 @@ use records::joint::JointUnion;
 use records::joint::RevoluteJoint;
 use records::joint::SphericalJoint;
 use records::joint::WeldJoint;
+use stop_code::stop_code;
 
 // From 2 ^ 23 up to 2 ^ 24 an f32 is a whole number, whose digits end its pattern.
 const WHOLE: f32 = 8388608.0;

@@ -7,8 +7,8 @@ use crate::joint_words::cased_words;
 use crate::joint_words::is_cased_joint;
 use crate::words::plus;
 use crate::words::words_from;
-use joint::stop_code::StopCode;
-use joint::stop_code::stop_code;
+use stop_code::StopCode;
+use stop_code::stop_code;
 
 // Whether the words are those of an answer.
 fn same_code(p: &[u8], r: StopCode) -> bool {

@@ -1,6 +1,6 @@
-use Rattle.joint.specs.StopCode.{isPushing}
-use Rattle.joint.proofs.stop_code.is_pushing.Statement.{statement}
-use Rattle.joint.proofs.stop_code.is_pushing.Tie as tie
+use Rattle.stop_code.specs.StopCode.{isPushing}
+use Rattle.stop_code.proofs.is_pushing.Statement.{statement}
+use Rattle.stop_code.proofs.is_pushing.Tie as tie
 
 returns : tie.Need-returns
 unfolding isPushing

@@ -1,6 +1,6 @@
-use Rattle.joint.specs.StopCode.{revoluteStops}
-use Rattle.joint.proofs.stop_code.revolute_stops.Statement.{statement}
-use Rattle.joint.proofs.stop_code.revolute_stops.Tie as tie
+use Rattle.stop_code.specs.StopCode.{revoluteStops}
+use Rattle.stop_code.proofs.revolute_stops.Statement.{statement}
+use Rattle.stop_code.proofs.revolute_stops.Tie as tie
 
 pub revolute-stops-spec : {M : Type 1} → statement M
 unfolding revoluteStops

@@ -1,6 +1,6 @@
 // The stops at which a joint's parts have arrived and are pushed back, read off the joint alone.
 ghost use mathlib.Core.Path.{_≡_};
-ghost use Rattle.joint.specs.StopCode as D;
+ghost use Rattle.stop_code.specs.StopCode as D;
 use constraint::answer::WRONG_KIND;
 use records::joint::JointSim;
 use records::joint::JointUnion;

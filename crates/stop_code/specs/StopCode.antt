@@ -1,4 +1,5 @@
--- Document 01's stop code, from the joint alone, with what C-11 adds: a stop counts only where the part has also arrived there. Definitions only. Assumes nothing.
+-- Document 01's stop code, from the joint alone, with what C-11 adds: a stop counts only where the part has also arrived there. Definitions only.
+-- Assumes nothing.
 use mathlib.Core.Bool.{Bool, false, cond, _&&_}
 use Prim.Native.Nat.{ℕ, _+_}
 use lib.Ieee.{Float}
@@ -9,7 +10,7 @@ use Rattle.records.specs.declared.joint.JointUnion.{JointUnion}
 use Rattle.records.specs.declared.joint.JointUnion.the-variants.{Revolute, Spherical, Weld, Other}
 use Rattle.records.specs.declared.joint.RevoluteJoint.{RevoluteJoint}
 use Rattle.records.specs.declared.joint.SphericalJoint.{SphericalJoint}
-use Rattle.joint.specs.declared.stop_code.StopCode.{StopCode}
+use Rattle.stop_code.specs.declared.StopCode.{StopCode}
 
 -- a limit that is off counts nothing
 unfoldable pub isPushing : Bool → Float → Bool

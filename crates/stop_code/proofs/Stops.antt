@@ -14,8 +14,8 @@ use Rattle.records.specs.declared.joint.JointSim.{JointSim}
 use Rattle.records.specs.declared.joint.JointUnion.{JointUnion}
 use Rattle.records.specs.declared.joint.JointUnion.the-variants.{Revolute, Spherical, Weld, Other}
 use Rattle.records.specs.Joint.{caseOf, noAngles}
-use Rattle.joint.specs.StopCode.{isPushing, isAtLower, isAtUpper, sumStops, revoluteStops, sphericalStops, found, stopsOf, stopCode}
-use Rattle.joint.specs.Claims.{StopNumber, NoStops, Stop, noStop, AtStop, Bit, Bits, RevoluteStops, SphericalStops, NoNanArrives}
+use Rattle.stop_code.specs.StopCode.{isPushing, isAtLower, isAtUpper, sumStops, revoluteStops, sphericalStops, found, stopsOf, stopCode}
+use Rattle.stop_code.specs.Claims.{StopNumber, NoStops, Stop, noStop, AtStop, Bit, Bits, RevoluteStops, SphericalStops, NoNanArrives}
 
 -- ---- number and place
 

@@ -1,6 +1,6 @@
-use Rattle.joint.specs.StopCode.{sphericalStops}
-use Rattle.joint.proofs.stop_code.spherical_stops.Statement.{statement}
-use Rattle.joint.proofs.stop_code.spherical_stops.Tie as tie
+use Rattle.stop_code.specs.StopCode.{sphericalStops}
+use Rattle.stop_code.proofs.spherical_stops.Statement.{statement}
+use Rattle.stop_code.proofs.spherical_stops.Tie as tie
 
 returns : tie.Need-returns
 unfolding sphericalStops

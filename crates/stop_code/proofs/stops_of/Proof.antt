@@ -1,7 +1,7 @@
 use borrow.Author.Needs.{needs}
-use Rattle.joint.specs.StopCode.{stopsOf}
-use Rattle.joint.proofs.stop_code.stops_of.Statement.{statement}
-use Rattle.joint.proofs.stop_code.stops_of.Tie as tie
+use Rattle.stop_code.specs.StopCode.{stopsOf}
+use Rattle.stop_code.proofs.stops_of.Statement.{statement}
+use Rattle.stop_code.proofs.stops_of.Tie as tie
 
 returns : tie.Need-returns
 unfolding stopsOf

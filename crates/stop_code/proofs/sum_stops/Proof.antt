@@ -1,14 +1,14 @@
--- `stop_code::sum_stops` equals its definition: each of the three numbers is one equation, and so at most 1, 2 and 4. Assumes nothing.
+-- `sum_stops` equals its definition: each of the three numbers is one equation, and so at most 1, 2 and 4. Assumes nothing.
 use mathlib.Core.Path.{_≡_}
 use mathlib.Core.Bool.{Bool, true, false, cond}
 use mathlib.Core.Logic.{⊎-elim}
 use Prim.Native.Nat.{ℕ, _≤_}
 use native.Mathlib.Omega.{arith}
-use Rattle.joint.specs.StopCode.{sumStops}
-use Rattle.joint.proofs.stop_code.sum_stops.Statement.{statement}
-use Rattle.joint.proofs.stop_code.sum_stops.Tie as tie
-use Rattle.joint.proofs.stop_code.sum_stops.Lts as lts
-use Rattle.joint.proofs.stop_code.sum_stops.Reads as reads
+use Rattle.stop_code.specs.StopCode.{sumStops}
+use Rattle.stop_code.proofs.sum_stops.Statement.{statement}
+use Rattle.stop_code.proofs.sum_stops.Tie as tie
+use Rattle.stop_code.proofs.sum_stops.Lts as lts
+use Rattle.stop_code.proofs.sum_stops.Reads as reads
 
 at-most : (b : Bool) (n k : ℕ) → k ≡ cond b n 0 → k ≤ n
 at-most true n k e = omega arith

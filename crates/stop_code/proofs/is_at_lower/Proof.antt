@@ -1,6 +1,6 @@
-use Rattle.joint.specs.StopCode.{isAtLower}
-use Rattle.joint.proofs.stop_code.is_at_lower.Statement.{statement}
-use Rattle.joint.proofs.stop_code.is_at_lower.Tie as tie
+use Rattle.stop_code.specs.StopCode.{isAtLower}
+use Rattle.stop_code.proofs.is_at_lower.Statement.{statement}
+use Rattle.stop_code.proofs.is_at_lower.Tie as tie
 
 returns : tie.Need-returns
 unfolding isAtLower

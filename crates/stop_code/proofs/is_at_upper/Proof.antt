@@ -1,6 +1,6 @@
-use Rattle.joint.specs.StopCode.{isAtUpper}
-use Rattle.joint.proofs.stop_code.is_at_upper.Statement.{statement}
-use Rattle.joint.proofs.stop_code.is_at_upper.Tie as tie
+use Rattle.stop_code.specs.StopCode.{isAtUpper}
+use Rattle.stop_code.proofs.is_at_upper.Statement.{statement}
+use Rattle.stop_code.proofs.is_at_upper.Tie as tie
 
 returns : tie.Need-returns
 unfolding isAtUpper

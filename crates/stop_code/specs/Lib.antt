@@ -1,0 +1,2 @@
+pub mod StopCode
+pub mod Claims
