@@ -1,7 +1,7 @@
 """Wrong versions of what the oracle asks: one edit each, such as a port could make.
 
-An edit is a short piece of the published text, or of the oracle's own text after document 01, and what
-stands in its place. `groups` are those in which the edit has to be noticed.
+An edit is a short piece of the published text, or of the oracle's own text after documents 01 and 02, and
+what stands in its place. `groups` are those in which the edit has to be noticed.
 """
 from collections import namedtuple
 
@@ -97,6 +97,22 @@ ROWS = (
 )
 
 
+ANGLES = "fn worked_angles"
+KEPT_TWIST, KEPT_SWING = "angles.twist = joint.angles.twist; ", "angles.swing = joint.angles.swing; "
+TWIST, SWING = "get_twist_angle(rel_q)", "get_swing_angle(rel_q)"
+RELATIVE = "inv_mul_quat(quat_a, quat_b)"
+FLIPPED_AT_ZERO = ("{ let flip = crate::math_functions::dot_quat(quat_a, quat_b) <= 0.0; "
+                   "inv_mul_quat(quat_a, if flip { crate::math_functions::negate_quat(quat_b) } else { quat_b }) }")
+# Name, how the limit's angle is written, how it is compared, with which angle.
+STOPS = (
+    ("revolute, lower", "j.lower_angle", ">=", "twist"),
+    ("revolute, upper", "j.upper_angle", "<=", "twist"),
+    ("spherical, lower", "j.lower_twist_angle", ">=", "twist"),
+    ("spherical, upper", "j.upper_twist_angle", "<=", "twist"),
+    ("spherical, cone", "j.cone_angle", "<=", "swing"),
+)
+
+
 def limit_versions(title, pair, groups):
     for name, file, behind, _, _ in LIMITS:
         yield Version(f"{name}: {title}", file, put(behind, *pair), groups)
@@ -114,6 +130,91 @@ def exchanged_versions():
         exchanged = f"{{ let mut m = transpose(out); (m.{first}, m.{second}) = (m.{second}, m.{first}); m }}"
         yield Version(f"invert_matrix: {first} and {second} exchanged", MATRIX,
                       put("pub fn invert_matrix", "transpose(out)", exchanged), ("leaves", *PREPARES))
+
+
+def after(behind, piece, more):
+    """Puts `more` after the first `piece` behind a piece of text."""
+    return put(behind, piece, piece + more)
+
+
+def kept_versions():
+    """Angles that should be none, and are those of before; and some that should be kept, and are not."""
+    off = "a limit that is off keeps its angle"
+    yield Version(f"angles: revolute, {off}", "stages.rs",
+                  put(ANGLES, "if j.enable_limit", KEPT_TWIST + "if j.enable_limit"), BY_VALUE)
+    yield Version(f"angles: spherical, twist, {off}", "stages.rs",
+                  put(ANGLES, "if j.enable_twist_limit", KEPT_TWIST + "if j.enable_twist_limit"), BY_VALUE)
+    yield Version(f"angles: spherical, cone, {off}", "stages.rs",
+                  put(ANGLES, "if j.enable_cone_limit", KEPT_SWING + "if j.enable_cone_limit"), BY_VALUE)
+    yield Version("angles: a revolute solve keeps the swing", "stages.rs",
+                  after(ANGLES, "JointUnion::Revolute(j) => {", KEPT_SWING), BY_VALUE)
+    yield Version("angles: fixed rotation keeps them", "stages.rs",
+                  put(ANGLES, "return angles", "return joint.angles"), BY_VALUE)
+    yield Version("angles: a weld's solve keeps them", "stages.rs",
+                  put(ANGLES, "_ => {}", "_ => angles = joint.angles"), BY_VALUE)
+    yield Version("angles: prepare keeps them", "stages.rs",
+                  put("pub fn prepare", "joint.angles = NO_ANGLES;", ""), PREPARES)
+    yield Version("angles: a warm start clears them", "stages.rs",
+                  after("pub fn warm_start", "warm_start(joint, states);", "joint.angles = NO_ANGLES;"), BY_VALUE)
+    cleared = "joint.angles = crate::records::NO_ANGLES;"
+    yield Version("angles: a refused direct call clears them", "direct.rs",
+                  put("fn answer(", "} else {", "} else { let mut joint = joint; " + cleared), ("direct",))
+    yield Version("angles: a refused stage by value clears them", "values.rs",
+                  after("fn answer(", "let is_refused = kind_of(&joint) != Some(called);",
+                        "if is_refused { " + cleared + " }"), VALUES)
+    yield Version("angles: a refused list clears them", "plain_run.rs",
+                  after("fn run_whole", "if number != 0 {",
+                        "for joint in &mut self.joints { joint.angles = NO_ANGLES; }"), ("lists",))
+
+
+def angle_versions():
+    """Angles of other rows, and of other rotations."""
+    for name, switch in (("revolute", "j.enable_limit"), ("spherical, twist", "j.enable_twist_limit"),
+                         ("spherical, cone", "j.enable_cone_limit")):
+        yield Version(f"angles: {name}, stored though its limit is off", "stages.rs",
+                      put(ANGLES, f"if {switch}", f"if {switch} || true"), BY_VALUE)
+    yield Version("angles: stored though rotation is fixed", "stages.rs",
+                  put(ANGLES, "if joint.fixed_rotation", "if false"), BY_VALUE)
+    yield Version("angles: twist by the cone's switch", "stages.rs",
+                  put(ANGLES, "if j.enable_twist_limit", "if j.enable_cone_limit"), BY_VALUE)
+    yield Version("angles: cone by the twist's switch", "stages.rs",
+                  put(ANGLES, "if j.enable_cone_limit", "if j.enable_twist_limit"), BY_VALUE)
+    spherical = "JointUnion::Spherical(j)"
+    yield Version("angles: the swing stored as the twist", "stages.rs", put(spherical, TWIST, SWING), BY_VALUE)
+    yield Version("angles: the twist stored as the swing", "stages.rs", put(spherical, SWING, TWIST), BY_VALUE)
+    yield Version("angles: spherical, frames exchanged", "stages.rs",
+                  put(ANGLES, RELATIVE, "inv_mul_quat(quat_b, quat_a)"), BY_VALUE)
+    yield Version("angles: revolute, frames exchanged", "aims.rs",
+                  put("pub fn flipped", "inv_mul_quat(a, b)", "inv_mul_quat(b, a)"), BY_VALUE)
+    yield Version("angles: the bodies' turning left out", "scene.rs",
+                  put("pub fn rotations", "mul_quat(turned, frame.q)", "{ let _ = turned; frame.q }"), BY_VALUE)
+    # A flip below zero, or none, is not to be seen in an angle: the product that decides it is the s of the rotation, bit for
+    # bit, and get_twist_angle takes a rotation with an s below zero as its negative. At zero it is.
+    yield Version("angles: revolute, quaternion flipped at zero", "aims.rs",
+                  put("pub fn flipped", "< 0.0", "<= 0.0"), STAGE)
+    yield Version("angles: spherical, quaternion flipped at zero", "stages.rs", put(ANGLES, RELATIVE, FLIPPED_AT_ZERO), STAGE)
+
+
+def stop_versions():
+    """The stop code with another sense of arrived."""
+    for name, limit, sign, angle in STOPS:
+        right, other = f"{limit} {sign} {angle}", "swing" if angle == "twist" else "twist"
+        for title, wrong in (
+            ("not arrived where just at it", f"{limit} {sign[0]} {angle}"),
+            ("NaN counts as arrived", f"!({limit} {'<' if sign == '>=' else '>'} {angle})"),
+            ("arrived on the other side", f"{limit} {'<=' if sign == '>=' else '>='} {angle}"),
+            (f"{other} for {angle}", f"{limit} {sign} {other}"),
+            ("arrival left out", "true"),
+        ):
+            yield Version(f"stop code: {name}, {title}", "values.rs", put("fn stop_code", right, wrong), VALUES)
+    for kind, lower, upper in (("revolute", "j.lower_angle", "j.upper_angle"),
+                               ("spherical", "j.lower_twist_angle", "j.upper_twist_angle")):
+        yield Version(f"stop code: {kind}, angles of the limits exchanged", "values.rs",
+                      both(put("fn stop_code", f"{lower} >=", f"{upper} >="), put("fn stop_code", f"{upper} <=", f"{lower} <=")),
+                      VALUES)
+    for name, impulse in (("lower", "j.lower_twist_impulse"), ("upper", "j.upper_twist_impulse")):
+        yield Version(f"stop code: {name} twist by the cone's switch", "values.rs",
+                      put("fn stop_code", f"j.enable_twist_limit, {impulse}", f"j.enable_cone_limit, {impulse}"), VALUES)
 
 
 VERSIONS = [
@@ -181,7 +282,10 @@ VERSIONS = [
             put("joint.delta_center = delta_center", "if enable_cone_limit", "if true"), STAGE),
     Version("spherical: rotation mass inverted though fixed", SPHERICAL,
             put("let rotation_mass", "if !base.fixed_rotation", "if true"), STAGE),
-    # The oracle's own text after document 01.
+    # The oracle's own text after documents 01 and 02.
+    *kept_versions(),
+    *angle_versions(),
+    *stop_versions(),
     Version("stop code: impulse of zero counts", "values.rs",
             put("fn stop_code", "impulse > 0.0", "impulse >= 0.0"), VALUES),
     Version("stop code: NaN impulse counts", "values.rs",

@@ -206,7 +206,7 @@ fn perpendicular(random: &mut Random, joint: &mut JointSim, states: &[BodyState]
 
 /// The rotation of frame B as frame A sees it, after the flip that revolute and weld make, and the
 /// rotation of frame A.
-fn flipped(joint: &JointSim, states: &[BodyState]) -> [Quat; 2] {
+pub fn flipped(joint: &JointSim, states: &[BodyState]) -> [Quat; 2] {
     let [a, mut b] = rotations(joint, states);
     if dot_quat(a, b) < 0.0 {
         b = negate_quat(b);

@@ -11,7 +11,7 @@ use crate::direct_edges::{deciding_indices, FLAGS};
 use crate::joint::JointSim;
 use crate::math_functions::{Vec3, MAT3_IDENTITY, MAT3_ZERO, VEC3_ZERO};
 use crate::plain_run::{unused_joint, Scene, LIST_BYTES};
-use crate::records::{indices, set_indices, Kind, EMPTY, KINDS};
+use crate::records::{indices, set_indices, Joint, Kind, EMPTY, KINDS};
 use Kind::{Revolute, Spherical, Weld};
 
 /// All stages of slot 0, in their order.
@@ -37,7 +37,7 @@ pub fn write(list: &mut List) -> Step {
 
 /// A scene of dynamic bodies that move, with these joints.
 fn moving(random: &mut Random, bodies: usize, links: &[Link]) -> Scene {
-    let moves = |joint: &JointSim| {
+    let moves = |joint: &Joint| {
         let masses = [joint.inv_mass_a, joint.inv_mass_b];
         let mut sides = indices(joint).into_iter().zip(masses);
         sides.all(|(index, inv_mass)| index == NULL_INDEX || inv_mass > 0.0)

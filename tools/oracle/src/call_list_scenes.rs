@@ -6,11 +6,12 @@ use crate::call_lists::visit_scene;
 use crate::cases::{Random, MINUS_ZERO, PLUS_ZERO};
 use crate::core::NULL_INDEX;
 use crate::direct::spoil_joint;
-use crate::joint::JointSim;
 use crate::math_functions::MAT3_ZERO;
 use crate::plain_run::{Scene, LIST_BYTES, PLACES};
-use crate::records::{kind_of, visit_impulses, visit_joint, BodyRecord, Kind, JOINT_TYPES, KINDS};
-use crate::scene::{self, changed, changer, choose, vector, WILD};
+use crate::records::{
+    kind_of, visit_fields, visit_impulses, BodyRecord, Joint, Kind, JOINT_TYPES, KINDS,
+};
+use crate::scene::{self, any_nan, changed, changer, choose, vector, WILD};
 use crate::solver::StepContext;
 use crate::words::Words;
 
@@ -66,7 +67,7 @@ fn joint(
     context: StepContext,
     states: &[BodyState],
     bodies: &[BodyRecord],
-) -> JointSim {
+) -> Joint {
     let bodies = indices.map(|index| match index {
         NULL_INDEX => body(random, index, 0),
         _ => bodies[index as usize],
@@ -110,7 +111,7 @@ fn clear_velocities(random: &mut Random, scene: &mut Scene) {
 
 /// A zero of either sign, or a NaN of any payload.
 fn zero_or_nan(random: &mut Random, _: f32) -> f32 {
-    let nan = random.word() | 0x7f80_0001;
+    let nan = any_nan(random).to_bits();
     f32::from_bits(choose(random, &[PLUS_ZERO, MINUS_ZERO, MINUS_ZERO, nan]))
 }
 
@@ -128,7 +129,7 @@ fn drawn(random: &mut Random) -> Scene {
             if random.one_in(2) {
                 visit_scene(&mut scene, &mut changer(random, 1, wild));
             } else if let Some(joint) = one_of(random, &mut scene.joints) {
-                visit_joint(joint, &mut changer(random, 1, wild));
+                visit_fields(joint, &mut changer(random, 1, wild));
             }
         }
     }

@@ -5,7 +5,7 @@ use crate::call_list_edges;
 use crate::call_list_scenes::{accepted, spoil};
 use crate::cases::{List, Random, Step};
 use crate::plain_run::{Answer, Scene};
-use crate::records::{read_cased_joint, visit_joint, write_cased_joint};
+use crate::records::{read_cased_joint, visit_fields, write_cased_joint};
 use crate::solver::StepContext;
 use crate::words::{read_all, write_all, Words};
 
@@ -62,10 +62,10 @@ pub fn answer_words(answer: &Answer, scene: &Scene) -> Vec<u32> {
     words
 }
 
-/// Shows each float of a scene to `visit`.
+/// Shows each float of a scene but the angles of its joints to `visit`.
 pub fn visit_scene(scene: &mut Scene, visit: &mut dyn FnMut(&mut f32)) {
     for joint in &mut scene.joints {
-        visit_joint(joint, visit);
+        visit_fields(joint, visit);
     }
     scene.context.visit_floats(visit);
     for state in &mut scene.states {

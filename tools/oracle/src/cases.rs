@@ -128,6 +128,12 @@ impl Random {
         Random(Random(seed).next() ^ Random(!stream).next())
     }
 
+    /// A stream that begins here and leaves this one as it was, so that what is drawn from it changes
+    /// nothing that is drawn after it.
+    pub fn beside(&self, stream: u64) -> Random {
+        Random::new(self.0, stream)
+    }
+
     fn next(&mut self) -> u64 {
         self.0 = self.0.wrapping_add(0x9e37_79b9_7f4a_7c15);
         let mut z = self.0;

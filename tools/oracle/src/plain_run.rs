@@ -3,7 +3,7 @@
 
 use crate::body::{BodyState, IDENTITY_BODY_STATE};
 use crate::joint::JointSim;
-use crate::records::{indices, kind_of, velocity_bits, Kind, EMPTY};
+use crate::records::{indices, kind_of, velocity_bits, Joint, Kind, EMPTY, NO_ANGLES};
 use crate::solver::StepContext;
 use crate::stages::{solve, warm_start};
 
@@ -18,7 +18,7 @@ pub struct Scene {
     pub joint_count: u32,
     pub body_count: u32,
     pub context: StepContext,
-    pub joints: Vec<JointSim>,
+    pub joints: Vec<Joint>,
     pub states: Vec<BodyState>,
 }
 
@@ -29,11 +29,21 @@ pub struct Answer {
     pub still: bool,
 }
 
-pub fn unused_joint() -> JointSim {
-    JointSim {
+pub fn unused_joint() -> Joint {
+    let sim = JointSim {
         union_: EMPTY,
         ..JointSim::default()
+    };
+    Joint {
+        sim,
+        angles: NO_ANGLES,
     }
+}
+
+/// Whether a joint is the unused one, whose angles are no numbers and so equal nothing.
+fn is_unused(joint: &Joint) -> bool {
+    let angles = joint.angles;
+    joint.sim == unused_joint().sim && angles.twist.is_nan() && angles.swing.is_nan()
 }
 
 /// The number of a direct call of a kind's stage: the first of 1, 2 and 3 whose cause holds, or 0.
@@ -60,7 +70,7 @@ impl Scene {
         self.states.resize(PLACES as usize, IDENTITY_BODY_STATE);
         let answer = self.run_whole(list);
         let (joints, states) = (&self.joints[given.0..], &self.states[given.1..]);
-        assert!(joints.iter().all(|joint| *joint == unused_joint()));
+        assert!(joints.iter().all(is_unused));
         assert!(states.iter().all(|state| *state == IDENTITY_BODY_STATE));
         self.joints.truncate(given.0);
         self.states.truncate(given.1);
@@ -116,7 +126,7 @@ impl Scene {
         }
         // A joint that does not stand here is unused, which is the empty case too.
         let joint = self.joints.get(usize::from(slot));
-        match joint.and_then(kind_of).zip(joint) {
+        match joint.and_then(|joint| kind_of(joint)).zip(joint) {
             Some((kind, joint)) => direct_number(kind, joint, self.body_count),
             None => 1,
         }

@@ -6,6 +6,7 @@ use crate::math_functions::{Matrix3, Pos, Quat, Transform, Vec2, Vec3, TRANSFORM
 use crate::solver::{Softness, StepContext};
 use crate::words::{bits, record, Words};
 use crate::world::World;
+use std::ops::{Deref, DerefMut};
 
 /// The kinds of joints whose stages are asked.
 #[derive(Clone, Copy, PartialEq)]
@@ -24,6 +25,40 @@ pub fn joint_type(kind: Kind) -> JointType {
         Kind::Revolute => JointType::Revolute,
         Kind::Spherical => JointType::Spherical,
         Kind::Weld => JointType::Weld,
+    }
+}
+
+/// The angles of the limit rows that the last solve worked, NaN for one that it did not (C-11).
+#[derive(Clone, Copy)]
+pub struct Angles {
+    pub twist: f32,
+    pub swing: f32,
+}
+
+/// The angles where no limit row was worked.
+pub const NO_ANGLES: Angles = Angles {
+    twist: f32::NAN,
+    swing: f32::NAN,
+};
+
+/// A joint: the Rust's own record, and beside it the two angles that the Rust does not have.
+#[derive(Clone, Copy)]
+pub struct Joint {
+    pub sim: JointSim,
+    pub angles: Angles,
+}
+
+impl Deref for Joint {
+    type Target = JointSim;
+
+    fn deref(&self) -> &JointSim {
+        &self.sim
+    }
+}
+
+impl DerefMut for Joint {
+    fn deref_mut(&mut self) -> &mut JointSim {
+        &mut self.sim
     }
 }
 
@@ -117,7 +152,11 @@ record!(WeldJoint {
     delta_center: Vec3,
     angular_mass: Matrix3
 });
-// The part that all kinds share. The record of the kind follows it.
+record!(Angles {
+    twist: f32,
+    swing: f32
+});
+// The part that all kinds share. The angles and the record of the kind follow it.
 record!(JointSim {
     joint_id: i32,
     body_id_a: i32,
@@ -170,6 +209,7 @@ record!(BodyState {
 // The counts of README.md.
 const _: () = {
     assert!(JointSim::COUNT == 46);
+    assert!(Angles::COUNT == 2);
     assert!(RevoluteJoint::COUNT == 52);
     assert!(SphericalJoint::COUNT == 68);
     assert!(WeldJoint::COUNT == 44);
@@ -206,14 +246,24 @@ impl Words for JointType {
 }
 
 /// Takes a joint of a kind off the front of `from`.
-pub fn read_joint(kind: Kind, from: &mut &[u32]) -> JointSim {
-    let mut joint = JointSim::read(from);
+pub fn read_joint(kind: Kind, from: &mut &[u32]) -> Joint {
+    let mut joint = read_empty_joint(from);
     joint.union_ = match kind {
         Kind::Revolute => JointUnion::Revolute(RevoluteJoint::read(from)),
         Kind::Spherical => JointUnion::Spherical(SphericalJoint::read(from)),
         Kind::Weld => JointUnion::Weld(WeldJoint::read(from)),
     };
     joint
+}
+
+/// Takes a joint of the empty case, which has no record, off the front of `from`.
+fn read_empty_joint(from: &mut &[u32]) -> Joint {
+    let sim = JointSim {
+        union_: EMPTY,
+        ..JointSim::read(from)
+    };
+    let angles = Angles::read(from);
+    Joint { sim, angles }
 }
 
 /// Does the same with the record of a joint, whatever its kind; the empty case has none.
@@ -229,13 +279,14 @@ macro_rules! with_record {
 }
 
 /// Appends a joint, its record included, to `to`.
-pub fn write_joint(joint: &JointSim, to: &mut Vec<u32>) {
-    joint.write(to);
+pub fn write_joint(joint: &Joint, to: &mut Vec<u32>) {
+    joint.sim.write(to);
+    joint.angles.write(to);
     with_record!(&joint.union_, record => record.write(to), empty => {});
 }
 
-/// Shows each float of a joint, its record included, to `visit`.
-pub fn visit_joint(joint: &mut JointSim, visit: &mut dyn FnMut(&mut f32)) {
+/// Shows each float of a joint but its angles, its record included, to `visit`.
+pub fn visit_fields(joint: &mut JointSim, visit: &mut dyn FnMut(&mut f32)) {
     joint.visit_floats(visit);
     with_record!(&mut joint.union_, record => record.visit_floats(visit), empty => {});
 }
@@ -375,18 +426,15 @@ pub fn case_word(joint: &JointSim) -> u32 {
 }
 
 /// Takes the word of a case and a joint of that case off the front of `from`.
-pub fn read_cased_joint(from: &mut &[u32]) -> JointSim {
+pub fn read_cased_joint(from: &mut &[u32]) -> Joint {
     match KINDS.get(u32::read(from) as usize) {
         Some(kind) => read_joint(*kind, from),
-        None => JointSim {
-            union_: EMPTY,
-            ..JointSim::read(from)
-        },
+        None => read_empty_joint(from),
     }
 }
 
 /// Appends the word of its case and the joint to `to`.
-pub fn write_cased_joint(joint: &JointSim, to: &mut Vec<u32>) {
+pub fn write_cased_joint(joint: &Joint, to: &mut Vec<u32>) {
     to.push(case_word(joint));
     write_joint(joint, to);
 }

@@ -7,6 +7,7 @@ use crate::call_lists::{answer_words, case, visit_scene};
 use crate::cases::{List, Random, Step};
 use crate::plain_run::Scene;
 use crate::records::indices;
+use crate::words::Words;
 
 /// How many lists ended differently.
 #[derive(Default)]
@@ -44,11 +45,15 @@ pub fn write(seed: u64, count: u64, list: &mut List, tally: &mut Tally) -> Step 
 fn end(scene: &Scene, calls: &[u8]) -> Vec<u32> {
     let mut scene = scene.clone();
     let answer = scene.run(calls);
-    visit_scene(&mut scene, &mut |x| {
+    let mut one_nan = |x: &mut f32| {
         if x.is_nan() {
             *x = f32::NAN;
         }
-    });
+    };
+    visit_scene(&mut scene, &mut one_nan);
+    for joint in &mut scene.joints {
+        joint.angles.visit_floats(&mut one_nan);
+    }
     answer_words(&answer, &scene)
 }
 

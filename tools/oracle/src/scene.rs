@@ -9,7 +9,8 @@ use crate::edges;
 use crate::joint::{JointSim, JointUnion, RevoluteJoint, SphericalJoint, WeldJoint};
 use crate::math_functions::*;
 use crate::records::{
-    joint_type, one_body, set_indices, sides, visit_joint, BodyRecord, Kind, JOINT_TYPES,
+    joint_type, limit, limit_count, one_body, set_indices, sides, visit_fields, Angles, BodyRecord,
+    Joint, Kind, JOINT_TYPES, NO_ANGLES,
 };
 use crate::solver::{make_soft, Softness, StepContext};
 use crate::solver_set::AWAKE_SET;
@@ -22,7 +23,7 @@ const PLACES: u32 = 8;
 /// All that a stage of a joint can take.
 pub struct Scene {
     pub kind: Kind,
-    pub joint: JointSim,
+    pub joint: Joint,
     pub context: StepContext,
     pub bodies: [BodyRecord; 2],
     pub states: Vec<BodyState>,
@@ -78,6 +79,7 @@ impl Scene {
             scene.vary_hertz(random);
         }
         scene.settle();
+        scene.hold_angles(random);
         scene
     }
 
@@ -105,6 +107,7 @@ impl Scene {
         scene.settle();
         scene.prepare();
         scene.place(random, indices);
+        scene.hold_angles(random);
         scene
     }
 
@@ -198,6 +201,18 @@ impl Scene {
         }
     }
 
+    /// Gives the joint angles such as it may hold before a stage, whatever was done with it.
+    fn hold_angles(&mut self, random: &Random) {
+        let random = &mut random.beside(10);
+        let limits: Vec<f32> = (0..limit_count(self.kind))
+            .map(|n| *limit(&mut self.joint, n).angle)
+            .collect();
+        self.joint.angles = Angles {
+            twist: held_angle(random, &limits),
+            swing: held_angle(random, &limits),
+        };
+    }
+
     /// The rotation of frame B as frame A sees it, the way solve computes it.
     pub fn relative_rotation(&self) -> Quat {
         let [a, b] = rotations(&self.joint, &self.states);
@@ -227,7 +242,7 @@ impl Scene {
     /// Changes one float in `rate`.
     fn change(&mut self, random: &mut Random, rate: u32, change: Change) {
         let mut visit = changer(random, rate, change);
-        visit_joint(&mut self.joint, &mut visit);
+        visit_fields(&mut self.joint, &mut visit);
         self.context.visit_floats(&mut visit);
         for body in &mut self.bodies {
             body.visit_floats(&mut visit);
@@ -312,7 +327,16 @@ fn negative(_: &mut Random, x: f32) -> f32 {
     -x
 }
 
-fn neighbour(random: &mut Random, x: f32) -> f32 {
+fn same(_: &mut Random, x: f32) -> f32 {
+    x
+}
+
+/// A NaN of any sign and payload.
+pub fn any_nan(random: &mut Random) -> f32 {
+    f32::from_bits(random.word() | 0x7f80_0001)
+}
+
+pub fn neighbour(random: &mut Random, x: f32) -> f32 {
     let step = if random.one_in(2) { 1 } else { -1 };
     f32::from_bits(x.to_bits().wrapping_add_signed(step))
 }
@@ -480,7 +504,7 @@ pub fn masses(random: &mut Random) -> [(f32, Matrix3); 2] {
 }
 
 /// A joint whose fields do not know of each other, nor of the bodies.
-fn joint(random: &mut Random, kind: Kind, h: f32) -> JointSim {
+fn joint(random: &mut Random, kind: Kind, h: f32) -> Joint {
     let body_id_a = random.below(PLACES);
     let body_id_b = if random.one_in(16) {
         body_id_a
@@ -490,7 +514,7 @@ fn joint(random: &mut Random, kind: Kind, h: f32) -> JointSim {
     let [(inv_mass_a, inv_i_a), (inv_mass_b, inv_i_b)] = masses(random);
     let hertz = (135.0 + 105.0 * random.even()) as f32;
     let damping_ratio = damping(random);
-    JointSim {
+    let sim = JointSim {
         joint_id: random.word() as i32,
         body_id_a: body_id_a as i32,
         body_id_b: body_id_b as i32,
@@ -512,6 +536,10 @@ fn joint(random: &mut Random, kind: Kind, h: f32) -> JointSim {
             Kind::Spherical => JointUnion::Spherical(spherical(random, h)),
             Kind::Weld => JointUnion::Weld(weld(random, h)),
         },
+    };
+    Joint {
+        sim,
+        angles: NO_ANGLES,
     }
 }
 
@@ -628,8 +656,22 @@ fn limit_impulse(random: &mut Random) -> f32 {
     }
 }
 
-fn angle(random: &mut Random) -> f32 {
+pub fn angle(random: &mut Random) -> f32 {
     (f64::from(PI) * random.even()) as f32
+}
+
+/// An angle that a joint holds: none, that of a limit or next to it, a plain one, or any float.
+pub fn held_angle(random: &mut Random, limits: &[f32]) -> f32 {
+    match random.below(8) {
+        0 | 1 => f32::NAN,
+        2 => any_nan(random),
+        3 | 4 if !limits.is_empty() => {
+            let limit = choose(random, limits);
+            choose(random, &[same, neighbour])(random, limit)
+        }
+        3..=5 => angle(random),
+        _ => choose(random, &[patterns, bits])(random, 0.0),
+    }
 }
 
 fn frame(random: &mut Random) -> Transform {

@@ -98,13 +98,14 @@ fn axes(random: &mut Random, list: &mut List) -> Step {
     Ok(())
 }
 
-/// Solve with the frames about a half turn apart.
+/// Solve with the frames about a half turn apart, the limits on: the sign of the angle is decided there.
 fn polarities(random: &mut Random, kind: Kind, list: &mut List) -> Step {
     for [x, y, z] in [[0.6, -0.8, 0.0], [0.0, 0.0, 1.0]] {
         for s in [0.0, -0.0, f32::MIN_POSITIVE, -f32::MIN_POSITIVE] {
             let mut scene = two_bodies(random, Stage::Solve, kind);
             scene.use_bias = true;
             scene.joint.fixed_rotation = false;
+            turn_limits_on(&mut scene);
             for state in &mut scene.states {
                 state.delta_rotation = QUAT_IDENTITY;
             }
@@ -136,6 +137,12 @@ fn limits(random: &mut Random, list: &mut List) -> Step {
     Ok(())
 }
 
+fn turn_limits_on(scene: &mut Scene) {
+    for n in 0..limit_count(scene.kind) {
+        *limit(&mut scene.joint, n).enabled = true;
+    }
+}
+
 /// Turns the limits on, and sets one of them to a multiple of the angle. Its impulse is so large
 /// that most solves leave some of it, or they would look alike.
 fn set_limit(scene: &mut Scene, n: usize, factor: f32) {
@@ -144,9 +151,7 @@ fn set_limit(scene: &mut Scene, n: usize, factor: f32) {
         0 | 1 => get_twist_angle(rotation),
         _ => get_swing_angle(rotation),
     };
-    for other in 0..limit_count(scene.kind) {
-        *limit(&mut scene.joint, other).enabled = true;
-    }
+    turn_limits_on(scene);
     let limit = limit(&mut scene.joint, n);
     *limit.angle = factor * angle;
     *limit.impulse = 100.0;

@@ -1,13 +1,16 @@
-//! Cases for the stages of the joints: prepare, warm start and solve of three kinds.
+//! Cases for the stages of the joints: prepare, warm start and solve of three kinds. Each is the Rust's
+//! own, and beside it what C-11 says of the joint's two angles.
 
+use crate::aims::flipped;
 use crate::body::BodyState;
 use crate::cases::{List, Random, Step};
 use crate::joint::revolute::*;
 use crate::joint::spherical::*;
 use crate::joint::weld::*;
-use crate::joint::JointSim;
-use crate::records::{self, read_joint, write_joint, BodyRecord, Kind};
-use crate::scene::Scene;
+use crate::joint::JointUnion;
+use crate::math_functions::{get_swing_angle, get_twist_angle, inv_mul_quat};
+use crate::records::{self, read_joint, write_joint, Angles, BodyRecord, Joint, Kind, NO_ANGLES};
+use crate::scene::{rotations, Scene};
 use crate::solver::StepContext;
 use crate::stage_edges;
 use crate::words::{read_all, write_all, Words};
@@ -35,8 +38,8 @@ const STAGES: [(u32, Stage, Kind); 9] = [
     (0x8a, Solve, Weld),
 ];
 
-/// Prepares a joint between two bodies.
-pub fn prepare(kind: Kind, joint: &mut JointSim, context: &StepContext, bodies: &[BodyRecord; 2]) {
+/// Prepares a joint between two bodies. No limit row has been worked then.
+pub fn prepare(kind: Kind, joint: &mut Joint, context: &StepContext, bodies: &[BodyRecord; 2]) {
     let prepare = match kind {
         Revolute => prepare_revolute_joint,
         Spherical => prepare_spherical_joint,
@@ -45,9 +48,11 @@ pub fn prepare(kind: Kind, joint: &mut JointSim, context: &StepContext, bodies: 
     let ids = [joint.body_id_a, joint.body_id_b];
     let world = records::world(ids.into_iter().zip(*bodies));
     prepare(&world, joint, context);
+    joint.angles = NO_ANGLES;
 }
 
-pub fn warm_start(kind: Kind, joint: &mut JointSim, states: &mut [BodyState]) {
+/// Warm starts a joint, which keeps its angles.
+pub fn warm_start(kind: Kind, joint: &mut Joint, states: &mut [BodyState]) {
     let warm_start = match kind {
         Revolute => warm_start_revolute_joint,
         Spherical => warm_start_spherical_joint,
@@ -56,9 +61,10 @@ pub fn warm_start(kind: Kind, joint: &mut JointSim, states: &mut [BodyState]) {
     warm_start(joint, states);
 }
 
+/// Solves a joint, which stores the angles of the limit rows that are worked.
 pub fn solve(
     kind: Kind,
-    joint: &mut JointSim,
+    joint: &mut Joint,
     context: &StepContext,
     use_bias: bool,
     states: &mut [BodyState],
@@ -68,7 +74,37 @@ pub fn solve(
         Spherical => solve_spherical_joint,
         Weld => solve_weld_joint,
     };
+    joint.angles = worked_angles(joint, states);
     solve(joint, context, states, use_bias);
+}
+
+/// The angle of each limit row that a solve works, and NaN for one that it does not: the Rust's
+/// angles of the rotation that the Rust's text forms for the row.
+fn worked_angles(joint: &Joint, states: &[BodyState]) -> Angles {
+    let mut angles = NO_ANGLES;
+    if joint.fixed_rotation {
+        return angles;
+    }
+    match &joint.union_ {
+        JointUnion::Revolute(j) => {
+            let [rel_q, _] = flipped(joint, states);
+            if j.enable_limit {
+                angles.twist = get_twist_angle(rel_q);
+            }
+        }
+        JointUnion::Spherical(j) => {
+            let [quat_a, quat_b] = rotations(joint, states);
+            let rel_q = inv_mul_quat(quat_a, quat_b);
+            if j.enable_twist_limit {
+                angles.twist = get_twist_angle(rel_q);
+            }
+            if j.enable_cone_limit {
+                angles.swing = get_swing_angle(rel_q);
+            }
+        }
+        _ => {}
+    }
+    angles
 }
 
 /// The words that a stage takes of a scene.

@@ -1,17 +1,17 @@
 //! Cases for what a joint of any case is asked by value: its stop code, and the stages, which take two
-//! bodies or two states and answer values. Numbers and stop codes are document 01's; where a stage is
-//! not refused, the Rust answers, on a slice of the two states.
+//! bodies or two states and answer values. Numbers and stop codes are document 01's, the codes as C-11
+//! has them since; where a stage is not refused, the Rust answers, on a slice of the two states.
 
 use crate::body::{body_flags::DYNAMIC_FLAG, BodyState, IDENTITY_BODY_STATE};
 use crate::cases::{List, Random, Step};
 use crate::direct::other_kind;
 use crate::draw::pattern;
-use crate::joint::{JointSim, JointUnion};
+use crate::joint::JointUnion;
 use crate::records::{
     indices, kind_of, limit, limit_count, read_cased_joint, set_indices, write_cased_joint,
-    write_joint, BodyRecord, Kind, EMPTY, KINDS,
+    write_joint, Angles, BodyRecord, Joint, Kind, EMPTY, KINDS,
 };
-use crate::scene::{choose, Scene};
+use crate::scene::{angle, held_angle, neighbour, positive, Scene};
 use crate::solver::StepContext;
 use crate::stages::{self, Stage};
 use crate::value_edges;
@@ -42,19 +42,22 @@ pub const CALLS: [Call; 9] = [
 const WRONG_CASE: u32 = 1;
 
 /// Number, place and code: "1 if the lower impulse is above zero, plus 2 for upper, plus 4 for swing.
-/// A limit that is off counts nothing; fixed rotation, weld and a refusal give 0."
-fn stop_code(joint: &JointSim) -> [u32; 3] {
+/// A limit that is off counts nothing; fixed rotation, weld and a refusal give 0." Each "now also wants
+/// the lower angle at or above the twist angle, the upper at or below it, the cone at or below the
+/// swing. A NaN angle counts as not arrived."
+fn stop_code(joint: &Joint) -> [u32; 3] {
+    let Angles { twist, swing } = joint.angles;
     let pushes = |on: bool, impulse: f32| on && impulse > 0.0;
     let stops = match &joint.union_ {
         JointUnion::Revolute(j) => [
-            pushes(j.enable_limit, j.lower_impulse),
-            pushes(j.enable_limit, j.upper_impulse),
+            pushes(j.enable_limit, j.lower_impulse) && j.lower_angle >= twist,
+            pushes(j.enable_limit, j.upper_impulse) && j.upper_angle <= twist,
             false,
         ],
         JointUnion::Spherical(j) => [
-            pushes(j.enable_twist_limit, j.lower_twist_impulse),
-            pushes(j.enable_twist_limit, j.upper_twist_impulse),
-            pushes(j.enable_cone_limit, j.swing_impulse),
+            pushes(j.enable_twist_limit, j.lower_twist_impulse) && j.lower_twist_angle >= twist,
+            pushes(j.enable_twist_limit, j.upper_twist_impulse) && j.upper_twist_angle <= twist,
+            pushes(j.enable_cone_limit, j.swing_impulse) && j.cone_angle <= swing,
         ],
         JointUnion::Weld(_) => [false; 3],
         _ => return [WRONG_CASE, 0, 0],
@@ -69,7 +72,7 @@ fn stop_code(joint: &JointSim) -> [u32; 3] {
 }
 
 /// Writes the case of a joint's stop code.
-pub fn stop_case(joint: &JointSim, list: &mut List) -> Step {
+pub fn stop_case(joint: &Joint, list: &mut List) -> Step {
     let mut inputs = Vec::new();
     write_cased_joint(joint, &mut inputs);
     list.asked(STOP_CODE, &inputs, stop_answer)
@@ -143,9 +146,9 @@ fn answer((_, stage, called): Call, from: &mut &[u32]) -> Vec<u32> {
 
 /// Works a joint on a slice of two states that are both stored, whatever its indices and the flags.
 fn on_slice(
-    joint: &mut JointSim,
+    joint: &mut Joint,
     pair: &mut [BodyState; 2],
-    work: impl FnOnce(&mut JointSim, &mut [BodyState]),
+    work: impl FnOnce(&mut Joint, &mut [BodyState]),
 ) {
     let kept = indices(joint);
     set_indices(joint, [0, 1]);
@@ -201,21 +204,55 @@ fn drawn(random: &mut Random, (_, stage, called): Call) -> (Scene, [BodyState; 2
     (scene, pair)
 }
 
-/// A joint whose limits push, or do not, or have no number as impulse.
-fn stopped(random: &mut Random, kind: Kind) -> JointSim {
+/// A joint whose limits push and are reached, or do not and are not, or have no numbers.
+fn stopped(random: &mut Random, kind: Kind) -> Joint {
     let mut joint = Scene::drawn(random, Solve, kind).joint;
-    joint.fixed_rotation = random.one_in(4);
+    joint.fixed_rotation = random.one_in(8);
+    let mut held = || match random.below(4) {
+        0 => held_angle(random, &[]),
+        _ => angle(random),
+    };
+    joint.angles = Angles {
+        twist: held(),
+        swing: held(),
+    };
     for n in 0..limit_count(kind) {
-        let enabled = !random.one_in(3);
-        let impulse = f32::from_bits(pattern(random));
+        let at = match n {
+            0 | 1 => joint.angles.twist,
+            _ => joint.angles.swing,
+        };
+        let enabled = !random.one_in(5);
         let limit = limit(&mut joint, n);
         *limit.enabled = enabled;
-        if choose(random, &[true, true, false]) {
-            *limit.impulse = impulse;
-        }
+        *limit.impulse = stop_impulse(random, *limit.impulse);
+        *limit.angle = stop_angle(random, n, at, *limit.angle);
     }
     if random.one_in(16) {
         joint.union_ = EMPTY;
     }
     joint
+}
+
+/// An impulse that mostly pushes.
+fn stop_impulse(random: &mut Random, kept: f32) -> f32 {
+    match random.below(8) {
+        0..=4 => positive(random, -6, 3),
+        5 => kept,
+        _ => f32::from_bits(pattern(random)),
+    }
+}
+
+/// The angle of a limit of a joint that is at this angle: mostly it is reached, often just so.
+fn stop_angle(random: &mut Random, n: usize, at: f32, kept: f32) -> f32 {
+    let inward = positive(random, -10, 0);
+    // The lower limit is reached from above, the others from below.
+    let inward = if n == 0 { inward } else { -inward };
+    match random.below(8) {
+        0 | 1 => at,
+        2 => neighbour(random, at),
+        3..=5 => at + inward,
+        6 => at - inward,
+        _ if random.one_in(2) => kept,
+        _ => f32::from_bits(pattern(random)),
+    }
 }
