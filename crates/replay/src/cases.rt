@@ -1,6 +1,12 @@
 // Running the cases of a block of bytes.
 ghost use Prim.Native.Nat.{_+_, _≤_};
 ghost use lib.ListN.{length};
+use crate::agreement::Agreement;
+use crate::agreement::without_angles;
+use crate::counts::Counts;
+use crate::counts::no_cases;
+use crate::counts::one_more;
+use crate::counts::one_not_run;
 use crate::direct_calls;
 use crate::internal;
 use crate::lists;
@@ -23,13 +29,11 @@ const ROOM: usize = 65536;
 pub struct Block {
     // How many bytes they take: more than the block has, where the last is too long for the buffer.
     pub used: usize,
-    pub run: u64,
-    pub differing: u64,
+    pub counts: Counts,
 }
 
-// Whether the library answers a case as the case says. The functions are numbered in groups of
-// sixteen.
-fn agrees(f: u32, p: &[u8]) -> bool {
+// Whether the library answers a case of a function that takes and answers no joint as the case says.
+fn leaf_agrees(f: u32, p: &[u8]) -> bool {
     match f / 16 {
         1 => scalar::agrees(f, p),
         2 => vector::agrees(f, p),
@@ -38,22 +42,21 @@ fn agrees(f: u32, p: &[u8]) -> bool {
         5 => matrix::agrees(f, p),
         6 => transform::agrees(f, p),
         7 => soft::agrees(f, p),
-        8 => stages::agrees(f, p),
-        9 => direct_calls::agrees(f, p),
-        10 => lists::agrees(f, p),
-        11 => stop_codes::agrees(f, p),
-        12 => values::agrees(f, p),
         _ => false,
     }
 }
 
-// One more, which no run of the program makes wrap.
-pub fn one_more(n: u64) -> u64 {
-    std::num::wrapping_add_u64(n, 1)
-}
-
-fn one_more_unless(n: u64, is_same: bool) -> u64 {
-    if is_same { n } else { one_more(n) }
+// Whether the library answers a case as the case says. The functions are numbered in groups of
+// sixteen.
+fn agrees(f: u32, p: &[u8]) -> Agreement {
+    match f / 16 {
+        8 => stages::agrees(f, p),
+        9 => direct_calls::agrees(f, p),
+        10 => lists::agrees(f, p),
+        11 => without_angles(stop_codes::agrees(f, p)),
+        12 => values::agrees(f, p),
+        _ => without_angles(leaf_agrees(f, p)),
+    }
 }
 
 // How many bytes a case has, with its header.
@@ -64,7 +67,7 @@ fn size_of(header: u32) -> usize
 }
 
 // Whether the case of `size` bytes at `at` is answered as it says.
-fn agrees_at(block: &[u8], at: usize, header: u32, size: usize) -> bool
+fn agrees_at(block: &[u8], at: usize, header: u32, size: usize) -> Agreement
     requires { ⌜ (4 ≤ size) × (at + size ≤ length (now block)) ⌝ }
 {
     let from = at + 4;
@@ -74,39 +77,28 @@ fn agrees_at(block: &[u8], at: usize, header: u32, size: usize) -> bool
 
 // The block ends before the case at `at` does. The case is left for when the rest of it has come,
 // unless the buffer cannot hold it: then it counts as differing, and is passed over.
-fn cut_at(at: usize, size: usize, run: u64, differing: u64) -> Block {
+fn cut_at(at: usize, size: usize, counts: Counts) -> Block {
     if size > ROOM {
         return Block {
             used: plus(at, size),
-            run: one_more(run),
-            differing: one_more(differing),
+            counts: one_not_run(counts),
         };
     }
-    Block {
-        used: at,
-        run,
-        differing,
-    }
+    Block { used: at, counts }
 }
 
 // Runs the cases that the block has whole.
 pub fn run_cases(block: &[u8]) -> Block {
     let mut at = 0usize;
-    let mut run = 0u64;
-    let mut differing = 0u64;
+    let mut counts = no_cases();
     while at < block.len() {
         let header = word(block, at / 4);
         let size = size_of(header);
         if size > block.len() - at {
-            return cut_at(at, size, run, differing);
+            return cut_at(at, size, counts);
         }
-        differing = one_more_unless(differing, agrees_at(block, at, header, size));
-        run = one_more(run);
+        counts = one_more(counts, agrees_at(block, at, header, size));
         at += size;
     }
-    Block {
-        used: at,
-        run,
-        differing,
-    }
+    Block { used: at, counts }
 }

@@ -3,6 +3,9 @@
 // The inputs are the joint after the number of its case, for a solve the context and the switch, then
 // how many states are lent, at most 40, and these. The answer is number, place, the joint and the
 // states. As in stages.rt, what was read is compared with the words that it was read from too.
+use crate::agreement::Agreement;
+use crate::agreement::if_also;
+use crate::agreement::without_angles;
 use crate::compare::has_words;
 use crate::compare::is_switch;
 use crate::compare::same_word;
@@ -63,18 +66,20 @@ fn solve(
 
 // Whether the words after the states are the answer: number, place, the joint of the case, and the
 // states.
-fn same_outcome(case: u32, rest: &[u8], count: u32, lent: Lent) -> bool {
+fn same_outcome(case: u32, rest: &[u8], count: u32, lent: Lent) -> Agreement {
     let p = words_from(rest, words_of_states(count));
     let answer = lent.answer;
     let states = lent.states;
-    same_word(p, 0, answer.number)
-        & same_word(p, 1, answer.place)
-        & same_states(
-            words_from(p, plus(2, words_of(case))),
-            states,
-            count as usize,
-        )
-        & same_joint(case, words_from(p, 2), lent.joint)
+    if_also(
+        same_word(p, 0, answer.number)
+            & same_word(p, 1, answer.place)
+            & same_states(
+                words_from(p, plus(2, words_of(case))),
+                states,
+                count as usize,
+            ),
+        same_joint(case, words_from(p, 2), lent.joint),
+    )
 }
 
 // Whether a case is as long as its parts: `before` words up to the states, and the answer.
@@ -88,7 +93,7 @@ fn is_whole(p: &[u8], before: usize, joint_words: usize, count: u32) -> bool {
 }
 
 // Whether the call leaves what the case says.
-fn is_warm_start(kind: u32, p: &[u8], rest: &[u8], count: u32) -> bool {
+fn is_warm_start(kind: u32, p: &[u8], rest: &[u8], count: u32) -> Agreement {
     let case = word(p, 0);
     same_outcome(case, rest, count, warm_start(kind, p, rest, count as usize))
 }
@@ -100,45 +105,48 @@ fn is_solve(
     use_bias: bool,
     rest: &[u8],
     count: u32,
-) -> bool {
+) -> Agreement {
     let case = word(p, 0);
     let lent = solve(kind, p, step, use_bias, rest, count as usize);
     same_outcome(case, rest, count, lent)
 }
 
-fn agrees_warm_start(kind: u32, p: &[u8]) -> bool {
+fn agrees_warm_start(kind: u32, p: &[u8]) -> Agreement {
     let joint_words = words_of(word(p, 0));
     let words = plus(1, joint_words);
     let count = word(p, words);
     let before = plus(words, 1);
-    is_whole(p, before, joint_words, count)
-        & is_cased_joint(p)
-        & is_warm_start(kind, p, words_from(p, before), count)
+    if_also(
+        is_whole(p, before, joint_words, count) & is_cased_joint(p),
+        is_warm_start(kind, p, words_from(p, before), count),
+    )
 }
 
-fn agrees_solve(kind: u32, p: &[u8]) -> bool {
+fn agrees_solve(kind: u32, p: &[u8]) -> Agreement {
     let joint_words = words_of(word(p, 0));
     let words = plus(1, joint_words);
     let step = context(words_from(p, words));
     let bias = plus(words, CONTEXT_WORDS);
     let count = word(p, plus(bias, 1));
     let before = plus(bias, 2);
-    is_whole(p, before, joint_words, count)
-        & is_cased_joint(p)
-        & same_context(words_from(p, words), step)
-        & is_switch(p, bias)
-        & is_solve(kind, p, step, switch(p, bias), words_from(p, before), count)
+    if_also(
+        is_whole(p, before, joint_words, count)
+            & is_cased_joint(p)
+            & same_context(words_from(p, words), step)
+            & is_switch(p, bias),
+        is_solve(kind, p, step, switch(p, bias), words_from(p, before), count),
+    )
 }
 
 // The functions are numbered in fours, a kind each, and the fourth is none.
-pub fn agrees(f: u32, p: &[u8]) -> bool {
+pub fn agrees(f: u32, p: &[u8]) -> Agreement {
     let kind = f % 4;
     if kind == 3 {
-        return false;
+        return without_angles(false);
     }
     match f / 4 {
         0x24 => agrees_warm_start(kind, p),
         0x25 => agrees_solve(kind, p),
-        _ => false,
+        _ => without_angles(false),
     }
 }

@@ -5,6 +5,10 @@
 // number, place, still, the two counts, the context, the joints and the states. As in stages.rt,
 // what was read is compared with the words that it was read from too.
 ghost use Prim.Native.Nat.{_≤_};
+use crate::agreement::Agreement;
+use crate::agreement::if_also;
+use crate::agreement::is_all;
+use crate::agreement::without_angles;
 use crate::compare::has_words;
 use crate::compare::same_switch;
 use crate::compare::same_word;
@@ -46,29 +50,30 @@ fn same_bodies(p: &[u8], states: usize, scene: Scene) -> bool {
     same_states(p, all, states)
 }
 
-fn same_slots(p: &[u8], joints: usize, scene: Scene) -> bool {
+fn same_slots(p: &[u8], joints: usize, scene: Scene) -> Agreement {
     let all = scene.joints;
     same_joints(p, all, joints)
 }
 
 // Whether the words are a scene's, from the context on.
-fn same_scene(p: &[u8], joints: usize, states: usize, scene: Scene) -> bool {
+fn same_scene(p: &[u8], joints: usize, states: usize, scene: Scene) -> Agreement {
     let rest = words_from(p, CONTEXT_WORDS);
-    same_context(p, scene.context)
-        & same_bodies(after_joints(rest, joints), states, scene)
-        & same_slots(rest, joints, scene)
+    if_also(
+        same_context(p, scene.context) & same_bodies(after_joints(rest, joints), states, scene),
+        same_slots(rest, joints, scene),
+    )
 }
 
 // Whether the scene of the inputs has their words.
 fn is_scene(p: &[u8], joints: usize, states: usize) -> bool
     requires { ⌜ (joints ≤ 32) × (states ≤ 32) ⌝ }
 {
-    same_scene(
+    is_all(same_scene(
         words_from(p, 5),
         joints,
         states,
         scene_of(p, joints, states),
-    )
+    ))
 }
 
 // The first n bytes, or all.
@@ -85,15 +90,17 @@ fn same_answer(p: &[u8], number: u32, place: u32, still: bool) -> bool {
 }
 
 // Whether the words are those of what a run answers.
-fn same_run(p: &[u8], joints: usize, states: usize, run: Run) -> bool {
-    same_answer(p, run.number, run.place, run.still)
-        & same_word(p, 3, run.scene.joint_count)
-        & same_word(p, 4, run.scene.body_count)
-        & same_scene(words_from(p, 5), joints, states, run.scene)
+fn same_run(p: &[u8], joints: usize, states: usize, run: Run) -> Agreement {
+    if_also(
+        same_answer(p, run.number, run.place, run.still)
+            & same_word(p, 3, run.scene.joint_count)
+            & same_word(p, 4, run.scene.body_count),
+        same_scene(words_from(p, 5), joints, states, run.scene),
+    )
 }
 
 // Whether the list runs on the scene of the inputs as the answer says.
-fn runs_to(p: &[u8], joints: usize, states: usize, list: &[u8], answer: &[u8]) -> bool
+fn runs_to(p: &[u8], joints: usize, states: usize, list: &[u8], answer: &[u8]) -> Agreement
     requires { ⌜ (joints ≤ 32) × (states ≤ 32) ⌝ }
 {
     same_run(
@@ -105,7 +112,7 @@ fn runs_to(p: &[u8], joints: usize, states: usize, list: &[u8], answer: &[u8]) -
 }
 
 // The case of `joints` joints, `states` states and a list of `bytes` bytes.
-fn agrees_run(p: &[u8], joints: usize, states: usize, bytes: usize) -> bool
+fn agrees_run(p: &[u8], joints: usize, states: usize, bytes: usize) -> Agreement
     requires { ⌜ (joints ≤ 32) × (states ≤ 32) ⌝ }
 {
     let before = words_from(p, HEAD_WORDS);
@@ -113,19 +120,21 @@ fn agrees_run(p: &[u8], joints: usize, states: usize, bytes: usize) -> bool
     let list = words_from(before, words);
     let list_words = bytes / 4 + (bytes % 4 + 3) / 4;
     let answer = words_from(list, list_words);
-    has_words(
-        p,
-        plus(plus(2 * HEAD_WORDS, plus(words, words)), list_words),
+    if_also(
+        has_words(
+            p,
+            plus(plus(2 * HEAD_WORDS, plus(words, words)), list_words),
+        )
+            & is_scene(p, joints, states),
+        runs_to(p, joints, states, first_bytes(list, bytes), answer),
     )
-        & is_scene(p, joints, states)
-        & runs_to(p, joints, states, first_bytes(list, bytes), answer)
 }
 
-pub fn agrees(f: u32, p: &[u8]) -> bool {
+pub fn agrees(f: u32, p: &[u8]) -> Agreement {
     let joints = word(p, 2) as usize;
     let states = word(p, 3) as usize;
     if f != 0xa0 || joints > 32 || states > 32 {
-        return false;
+        return without_angles(false);
     }
     agrees_run(p, joints, states, word(p, 4) as usize)
 }

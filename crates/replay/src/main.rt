@@ -1,7 +1,10 @@
 // Runs the test cases of standard input, then those of each file that the arguments name, and prints
-// how many there are, and in how many of them the library's answer is not the recorded one.
+// how many there are, and in how many of them the library's answer is not the recorded one, the stored
+// angles left aside; then how many stored angles were compared, and how many of them differ.
+mod agreement;
 mod cases;
 mod compare;
+mod counts;
 mod direct_calls;
 mod internal;
 mod joint_words;
@@ -26,16 +29,17 @@ mod words;
 
 ghost use Prim.Native.Nat.{_≤_};
 ghost use lib.ListN.{length};
-use cases::one_more;
 use cases::run_cases;
+use counts::Counts;
+use counts::no_cases;
+use counts::one_not_run;
+use counts::sum;
 use libc::STDIN_FILENO;
 use libc::STDOUT_FILENO;
-use std::num::wrapping_add_u64;
 
-// How many cases were run, and how far the input has been.
+// What the cases came to, and how far the input has been.
 struct State {
-    run: u64,
-    differing: u64,
+    counts: Counts,
     // The bytes at the start of the buffer, of a case that is not whole yet.
     kept: usize,
     // The bytes still to come of a case that is too long for the buffer and has been counted.
@@ -49,8 +53,7 @@ fn ended(s: State, is_broken: bool) -> State {
     let mut t = s;
     t.has_more = false;
     if is_broken || s.kept > 0 {
-        t.run = one_more(s.run);
-        t.differing = one_more(s.differing);
+        t.counts = one_not_run(s.counts);
     }
     t
 }
@@ -86,8 +89,7 @@ fn run_block(buf: &mut [u8], s: State, end: usize) -> State
     let there = end - skip;
     let b = run_cases(&buf[skip..end]);
     let used = b.used;
-    t.run = wrapping_add_u64(s.run, b.run);
-    t.differing = wrapping_add_u64(s.differing, b.differing);
+    t.counts = sum(s.counts, b.counts);
     if used > there {
         t.skip = used - there;
         return t;
@@ -113,10 +115,9 @@ fn turn(buf: &mut [u8], fd: i32, s: State) -> State {
 }
 
 // Before an input, with what the earlier ones came to.
-fn begun(run: u64, differing: u64) -> State {
+fn begun(counts: Counts) -> State {
     State {
-        run,
-        differing,
+        counts,
         kept: 0,
         skip: 0,
         has_more: true,
@@ -126,7 +127,7 @@ fn begun(run: u64, differing: u64) -> State {
 // Runs one more input. A proved loop has to end, and nothing says that the input does. So the loop
 // counts its turns down, from a number that no run uses up.
 fn replay(buf: &mut [u8], fd: i32, before: State) -> State {
-    let mut s = begun(before.run, before.differing);
+    let mut s = begun(before.counts);
     let mut turns = u64::MAX;
     while turns > 0 && s.has_more {
         s = turn(buf, fd, s);
@@ -162,12 +163,21 @@ fn replay_files(buf: &mut [u8], before: State) -> State {
     s
 }
 
+fn print_line(run: u64, differing: u64) {
+    io::print_decimal(STDOUT_FILENO, run);
+    io::write_all(STDOUT_FILENO, b" ");
+    io::print_decimal(STDOUT_FILENO, differing);
+    io::write_all(STDOUT_FILENO, b"\n");
+}
+
+fn print_counts(c: Counts) {
+    print_line(c.run, c.differing);
+    print_line(c.angles, c.angles_differing);
+}
+
 fn main() {
     let mut buf = io::large_buffer();
-    let read = replay(&mut buf, STDIN_FILENO, begun(0, 0));
+    let read = replay(&mut buf, STDIN_FILENO, begun(no_cases()));
     let s = replay_files(&mut buf, read);
-    io::print_decimal(STDOUT_FILENO, s.run);
-    io::write_all(STDOUT_FILENO, b" ");
-    io::print_decimal(STDOUT_FILENO, s.differing);
-    io::write_all(STDOUT_FILENO, b"\n");
+    print_counts(s.counts);
 }

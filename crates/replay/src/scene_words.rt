@@ -1,11 +1,15 @@
 // The joints and states of a scene: as many as a case gives, one after the other, the joints each
 // after the number of its case. The places after them are not in use.
 ghost use Prim.Native.Nat.{_≤_};
+use crate::agreement::Agreement;
+use crate::agreement::both;
+use crate::agreement::without_angles;
 use crate::joint_words::OTHER;
 use crate::joint_words::cased_joint;
 use crate::joint_words::cased_words;
 use crate::joint_words::same_cased_joint;
-use crate::joint_words::same_joint;
+use crate::joint_words::same_fields;
+use crate::joint_words::with_angles;
 use crate::record_words::STATE_WORDS;
 use crate::record_words::context;
 use crate::record_words::same_state;
@@ -75,12 +79,13 @@ pub fn states_of(p: &[u8], count: usize) -> [BodyState; 32]
 }
 
 // Whether a joint is not in use. These are its words up to the last that is not 0: the three ids
-// are -1, the type is that of a distance joint, and both frames are the identity.
-fn is_unused_joint(joint: JointSim) -> bool {
+// are -1, the type is that of a distance joint, and both frames are the identity. Its angles are NaNs.
+fn is_unused_joint(joint: JointSim) -> Agreement {
     let words = b"\xff\xff\xff\xff\xff\xff\xff\xff\xff\xff\xff\xff\x01\0\0\0\
         \0\0\0\0\0\0\0\0\0\0\0\0\0\0\0\0\0\0\0\0\0\0\0\0\0\0\x80\x3f\
         \0\0\0\0\0\0\0\0\0\0\0\0\0\0\0\0\0\0\0\0\0\0\0\0\0\0\x80\x3f";
-    same_joint(OTHER, words, joint)
+    let nans = b"\0\0\xc0\x7f\0\0\xc0\x7f";
+    with_angles(same_fields(OTHER, words, joint), nans, joint.angles)
 }
 
 // Whether a state is the identity state, whose last word that is not 0 is that of the rotation.
@@ -90,7 +95,7 @@ fn is_identity_state(state: BodyState) -> bool {
     same_state(words, state)
 }
 
-fn same_joint_place(is_given: bool, p: &[u8], joint: JointSim) -> bool {
+fn same_joint_place(is_given: bool, p: &[u8], joint: JointSim) -> Agreement {
     if is_given {
         return same_cased_joint(p, joint);
     }
@@ -105,14 +110,17 @@ fn same_state_place(is_given: bool, p: &[u8], state: BodyState) -> bool {
 }
 
 // Whether the words are those of the first `count` joints, and the others are unused.
-pub fn same_joints(p: &[u8], joints: [JointSim; 32], count: usize) -> bool {
-    let mut same = true;
+pub fn same_joints(p: &[u8], joints: [JointSim; 32], count: usize) -> Agreement {
+    let mut all = without_angles(true);
     let mut k = 0usize;
     while k < 32 {
-        same = same & same_joint_place(k < count, after_joints(p, k), joints[k]);
+        all = both(
+            all,
+            same_joint_place(k < count, after_joints(p, k), joints[k]),
+        );
         k += 1;
     }
-    same
+    all
 }
 
 pub fn same_states(p: &[u8], states: [BodyState; 32], count: usize) -> bool {

@@ -2,6 +2,9 @@
 //
 // What is read of the inputs is compared with their words too: those of a switch that is neither 0
 // nor 1, and of a type that there is not, differ from what is read.
+use crate::agreement::Agreement;
+use crate::agreement::if_also;
+use crate::agreement::without_angles;
 use crate::compare::has_words;
 use crate::compare::is_switch;
 use crate::joint_words::indices;
@@ -114,19 +117,22 @@ fn is_whole(p: &[u8], parts: Parts, at: Indices) -> bool {
 }
 
 // Whether the stage leaves what the answer has.
-fn is_prepare(kind: u32, p: &[u8], answer: &[u8]) -> bool {
+fn is_prepare(kind: u32, p: &[u8], answer: &[u8]) -> Agreement {
     let r = prepare(kind, kind, p);
-    (r.number == 0) & (r.place == 0) & same_joint(kind, answer, r.joint)
+    if_also(
+        (r.number == 0) & (r.place == 0),
+        same_joint(kind, answer, r.joint),
+    )
 }
 
-fn agrees_prepare(kind: u32, p: &[u8]) -> bool {
+fn agrees_prepare(kind: u32, p: &[u8]) -> Agreement {
     let words = words_of(kind);
     let answer = words + CONTEXT_WORDS + 2 * BODY_WORDS;
     let step = words_from(p, words);
-    has_words(p, plus(answer, words))
-        & is_joint(kind, p)
-        & same_context(step, context(step))
-        & is_prepare(kind, p, words_from(p, answer))
+    if_also(
+        has_words(p, plus(answer, words)) & is_joint(kind, p) & same_context(step, context(step)),
+        is_prepare(kind, p, words_from(p, answer)),
+    )
 }
 
 // Whether the answer has what a stage left: the states with its velocities stored, and the joint.
@@ -138,21 +144,29 @@ fn same_left(
     pair: StatePair,
     v: Velocities,
     joint: JointSim,
-) -> bool {
-    same_states(p, parts, at, stored(at, pair, v))
-        & same_joint(kind, words_from(p, parts.joint_after), joint)
+) -> Agreement {
+    if_also(
+        same_states(p, parts, at, stored(at, pair, v)),
+        same_joint(kind, words_from(p, parts.joint_after), joint),
+    )
 }
 
-fn is_warm_start(kind: u32, p: &[u8], parts: Parts, at: Indices) -> bool {
+fn is_warm_start(kind: u32, p: &[u8], parts: Parts, at: Indices) -> Agreement {
     let pair = states_of(p, parts, at);
     let r = warm_start(kind, kind, p, pair);
-    (r.number == 0) & (r.place == 0) & same_left(kind, p, parts, at, pair, r.velocities, r.joint)
+    if_also(
+        (r.number == 0) & (r.place == 0),
+        same_left(kind, p, parts, at, pair, r.velocities, r.joint),
+    )
 }
 
-fn agrees_warm_start(kind: u32, p: &[u8]) -> bool {
+fn agrees_warm_start(kind: u32, p: &[u8]) -> Agreement {
     let parts = parts_of(kind, p, words_of(kind));
     let at = indices(kind, p);
-    is_whole(p, parts, at) & is_joint(kind, p) & is_warm_start(kind, p, parts, at)
+    if_also(
+        is_whole(p, parts, at) & is_joint(kind, p),
+        is_warm_start(kind, p, parts, at),
+    )
 }
 
 fn is_solve(
@@ -162,35 +176,40 @@ fn is_solve(
     use_bias: bool,
     parts: Parts,
     at: Indices,
-) -> bool {
+) -> Agreement {
     let pair = states_of(p, parts, at);
     let r = solve(kind, kind, p, step, use_bias, pair);
-    (r.number == 0) & (r.place == 0) & same_left(kind, p, parts, at, pair, r.velocities, r.joint)
+    if_also(
+        (r.number == 0) & (r.place == 0),
+        same_left(kind, p, parts, at, pair, r.velocities, r.joint),
+    )
 }
 
-fn agrees_solve(kind: u32, p: &[u8]) -> bool {
+fn agrees_solve(kind: u32, p: &[u8]) -> Agreement {
     let words = words_of(kind);
     let bias = words + CONTEXT_WORDS;
     let step = context(words_from(p, words));
     let parts = parts_of(kind, p, bias + 1);
     let at = indices(kind, p);
-    is_whole(p, parts, at)
-        & is_joint(kind, p)
-        & same_context(words_from(p, words), step)
-        & is_switch(p, bias)
-        & is_solve(kind, p, step, switch(p, bias), parts, at)
+    if_also(
+        is_whole(p, parts, at)
+            & is_joint(kind, p)
+            & same_context(words_from(p, words), step)
+            & is_switch(p, bias),
+        is_solve(kind, p, step, switch(p, bias), parts, at),
+    )
 }
 
 // The functions are numbered in fours, a kind each, and the fourth is none.
-pub fn agrees(f: u32, p: &[u8]) -> bool {
+pub fn agrees(f: u32, p: &[u8]) -> Agreement {
     let kind = f % 4;
     if kind == 3 {
-        return false;
+        return without_angles(false);
     }
     match f / 4 {
         0x20 => agrees_prepare(kind, p),
         0x21 => agrees_warm_start(kind, p),
         0x22 => agrees_solve(kind, p),
-        _ => false,
+        _ => without_angles(false),
     }
 }

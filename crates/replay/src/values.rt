@@ -4,6 +4,9 @@
 // a warm start two states, for a solve the context, the switch and two states. The answer is number,
 // place, the joint, and but for prepare the velocities. As in stages.rt, what was read is compared
 // with the words that it was read from too.
+use crate::agreement::Agreement;
+use crate::agreement::if_also;
+use crate::agreement::without_angles;
 use crate::compare::has_words;
 use crate::compare::is_switch;
 use crate::compare::same_vec3;
@@ -52,16 +55,21 @@ fn pair_at(p: &[u8]) -> StatePair {
 
 // Whether the stage answers what the case says. The words of the joint are p, those of the states and
 // of the answer follow.
-fn is_prepare(kind: u32, case: u32, p: &[u8], answer: &[u8]) -> bool {
+fn is_prepare(kind: u32, case: u32, p: &[u8], answer: &[u8]) -> Agreement {
     let r = prepare(kind, case, p);
-    same_numbers(answer, r.number, r.place) & same_joint(case, words_from(answer, 2), r.joint)
+    if_also(
+        same_numbers(answer, r.number, r.place),
+        same_joint(case, words_from(answer, 2), r.joint),
+    )
 }
 
-fn is_warm_start(kind: u32, case: u32, p: &[u8], states: &[u8], answer: &[u8]) -> bool {
+fn is_warm_start(kind: u32, case: u32, p: &[u8], states: &[u8], answer: &[u8]) -> Agreement {
     let r = warm_start(kind, case, p, pair_at(states));
-    same_numbers(answer, r.number, r.place)
-        & same_velocities(words_from(answer, plus(2, words_of(case))), r.velocities)
-        & same_joint(case, words_from(answer, 2), r.joint)
+    if_also(
+        same_numbers(answer, r.number, r.place)
+            & same_velocities(words_from(answer, plus(2, words_of(case))), r.velocities),
+        same_joint(case, words_from(answer, 2), r.joint),
+    )
 }
 
 fn is_solve(
@@ -72,48 +80,54 @@ fn is_solve(
     use_bias: bool,
     states: &[u8],
     answer: &[u8],
-) -> bool {
+) -> Agreement {
     let r = solve(kind, case, p, step, use_bias, pair_at(states));
-    same_numbers(answer, r.number, r.place)
-        & same_velocities(words_from(answer, plus(2, words_of(case))), r.velocities)
-        & same_joint(case, words_from(answer, 2), r.joint)
+    if_also(
+        same_numbers(answer, r.number, r.place)
+            & same_velocities(words_from(answer, plus(2, words_of(case))), r.velocities),
+        same_joint(case, words_from(answer, 2), r.joint),
+    )
 }
 
-fn agrees_prepare(kind: u32, case: u32, p: &[u8]) -> bool {
+fn agrees_prepare(kind: u32, case: u32, p: &[u8]) -> Agreement {
     let words = words_of(case);
     let step = words_from(p, plus(1, words));
     let answer = 1 + words + CONTEXT_WORDS + 2 * BODY_WORDS;
-    has_words(p, plus(answer, 2 + words))
-        & is_cased_joint(p)
-        & same_context(step, context(step))
-        & is_prepare(kind, case, words_from(p, 1), words_from(p, answer))
+    if_also(
+        has_words(p, plus(answer, 2 + words))
+            & is_cased_joint(p)
+            & same_context(step, context(step)),
+        is_prepare(kind, case, words_from(p, 1), words_from(p, answer)),
+    )
 }
 
-fn agrees_warm_start(kind: u32, case: u32, p: &[u8]) -> bool {
+fn agrees_warm_start(kind: u32, case: u32, p: &[u8]) -> Agreement {
     let words = words_of(case);
     let states = 1 + words;
     let answer = states + 2 * STATE_WORDS;
-    has_words(p, plus(answer, 2 + words + VELOCITY_WORDS))
-        & is_cased_joint(p)
-        & is_warm_start(
+    if_also(
+        has_words(p, plus(answer, 2 + words + VELOCITY_WORDS)) & is_cased_joint(p),
+        is_warm_start(
             kind,
             case,
             words_from(p, 1),
             words_from(p, states),
             words_from(p, answer),
-        )
+        ),
+    )
 }
 
-fn agrees_solve(kind: u32, case: u32, p: &[u8]) -> bool {
+fn agrees_solve(kind: u32, case: u32, p: &[u8]) -> Agreement {
     let words = words_of(case);
     let step = context(words_from(p, plus(1, words)));
     let bias = 1 + words + CONTEXT_WORDS;
     let answer = bias + 1 + 2 * STATE_WORDS;
-    has_words(p, plus(answer, 2 + words + VELOCITY_WORDS))
-        & is_cased_joint(p)
-        & same_context(words_from(p, plus(1, words)), step)
-        & is_switch(p, bias)
-        & is_solve(
+    if_also(
+        has_words(p, plus(answer, 2 + words + VELOCITY_WORDS))
+            & is_cased_joint(p)
+            & same_context(words_from(p, plus(1, words)), step)
+            & is_switch(p, bias),
+        is_solve(
             kind,
             case,
             words_from(p, 1),
@@ -121,20 +135,21 @@ fn agrees_solve(kind: u32, case: u32, p: &[u8]) -> bool {
             switch(p, bias),
             words_from(p, bias + 1),
             words_from(p, answer),
-        )
+        ),
+    )
 }
 
 // The functions are numbered in fours, a kind each, and the fourth is none.
-pub fn agrees(f: u32, p: &[u8]) -> bool {
+pub fn agrees(f: u32, p: &[u8]) -> Agreement {
     let kind = f % 4;
     let case = word(p, 0);
     if kind == 3 {
-        return false;
+        return without_angles(false);
     }
     match f / 4 {
         0x30 => agrees_prepare(kind, case, p),
         0x31 => agrees_warm_start(kind, case, p),
         0x32 => agrees_solve(kind, case, p),
-        _ => false,
+        _ => without_angles(false),
     }
 }

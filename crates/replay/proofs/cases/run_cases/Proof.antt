@@ -7,10 +7,13 @@ use Rattle.replay.proofs.cases.run_cases.Statement.{statement}
 use Rattle.replay.proofs.cases.run_cases.Tie as tie
 
 abbrev Inv-loop : tie.InvT-loop
-Inv-loop block at₀ run₀ differing₀ at run differing = Unit {0}
+Inv-loop block at₀ counts₀ at counts = Unit {0}
 
 abbrev μ-loop : tie.MeasureT-loop
-μ-loop block at₀ run₀ differing₀ at run differing = length block - at
+μ-loop block at₀ counts₀ at counts = length block - at
+
+no-cases-requires : tie.Need-no-cases-requires Inv-loop μ-loop
+no-cases-requires c κs = tt
 
 loop-holds : tie.Need-loop-holds Inv-loop μ-loop
 loop-holds c = tt
@@ -33,9 +36,6 @@ returns c = tt
 agrees-at-requires : tie.Need-agrees-at-requires Inv-loop μ-loop
 agrees-at-requires c κs = omega arith
 
-one-more-unless-requires : tie.Need-one-more-unless-requires Inv-loop μ-loop
-one-more-unless-requires c κs = tt
-
 one-more-requires : tie.Need-one-more-requires Inv-loop μ-loop
 one-more-requires c κs = tt
 
@@ -57,6 +57,7 @@ run-cases-spec =
     (tie.spec
     Inv-loop
     μ-loop
+    no-cases-requires
     loop-holds
     word-requires
     size-of-requires
@@ -64,7 +65,6 @@ run-cases-spec =
     cut-at-requires
     returns
     agrees-at-requires
-    one-more-unless-requires
     one-more-requires
     add-at
     loop-less
