@@ -1,5 +1,6 @@
--- What holds of the two angles that a joint of any kind keeps, of the code of one that was prepared or warm started, and of prepare, in the words of document 01
--- and of C-11. Statements only: each is proved in proofs/Angles.antt or proofs/Prepares.antt, under the same name in small letters. Assumes nothing.
+-- What holds of the two angles that a joint of any kind keeps, of the code of one that was prepared or warm started, and of prepare, in the words of
+-- document 01 and of C-11. Statements only: each is proved in proofs/Angles.antt or proofs/Prepares.antt, under the same name in small letters.
+-- Assumes nothing.
 use mathlib.Core.Path.{_≡_}
 use mathlib.Core.Logic.{_↔_}
 use mathlib.Core.Bool.{Bool, true, false}
