@@ -66,7 +66,8 @@ Refusal = (call : StageCall) (joint : JointSim) (states : List BodyState)
 
 -- ==== What may change
 
--- joint and states are as they were but for velocities of dynamic states that the joint names, and for what a solve writes of the joint
+-- joint and states are as they were but for velocities of dynamic states that the joint names, and for what a solve writes of the joint: impulses, revolute's
+-- two perpendicular axes, and the two angles
 pub record OnlyChanges (joint : JointSim) (states : List BodyState) (after : Outcome) : Type 0 where
   pub impulses : OnlyImpulses joint (after .joint)
   pub as-many : length (after .states) ≡ length states

@@ -183,13 +183,13 @@ impulseX r = linearImpulseX (jointAt (r .scene) 0 .«union_»)
 -- ---- the figures, each below the sentence that it shows to be false
 
 pub record Shown : Type 0 where
-  -- 'code 0 means that no stop pushes': a quarter of a radian away, and swinging towards it
+  -- 'the limit pushes only once the part has arrived at its stop', 'code 0 means that no stop pushes': a quarter of a radian away, and swinging towards it
   pub pushes-early : lower (plainRun (door (neg quarter) quarter zero (neg one)) solve) ≡ half
   pub code-early : stopOf (plainRun (door (neg quarter) quarter zero (neg one)) solve) ≡ 0
   -- 'code 0 means that no stop is reached': it is at angle 0, a quarter of a radian beyond its lower stop, and swings back
   pub beyond : (twist (plainRun (door quarter one zero one) solve) ≡ zero) × (lower (plainRun (door quarter one zero one) solve) ≡ zero)
   pub code-beyond : stopOf (plainRun (door quarter one zero one) solve) ≡ 0
-  -- 'the code comes only beyond the stop': at the stop's own angle, and pushed by 1
+  -- 'a part is at its stop only beyond it': at the stop's own angle, and pushed by 1
   pub at-stop : (twist (plainRun arriving solve) ≡ zero) × (lower (plainRun arriving solve) ≡ one)
   pub code-at-stop : stopOf (plainRun arriving solve) ≡ 1
   -- 'the code goes as soon as the part leaves its stop': turned half round, it has its code up to the next solve, which finds it there

@@ -16,7 +16,7 @@ use Rattle.records.specs.declared.body.BodyRecord.{BodyRecord}
 use Rattle.records.specs.declared.joint.RevoluteJoint.{RevoluteJoint}
 use Rattle.records.specs.declared.joint.JointBase.{JointBase}
 use Rattle.records.specs.declared.joint.JointSim.{JointSim}
-use Rattle.records.specs.Joint.{asRevolute, isRevolute, limitAngles, noAngles}
+use Rattle.records.specs.Joint.{asRevolute, isRevolute, limitAngles, noAngles, afterSolve}
 use Rattle.records.specs.Revolute.{withIndices}
 use Rattle.constraint.specs.declared.velocity.Velocities.{Velocities}
 use Rattle.constraint.specs.declared.velocity.InvMasses.{InvMasses}
@@ -62,7 +62,8 @@ module _ (base : JointBase) (j : RevoluteJoint) (h invH : Float) (stateA stateB 
   pub solve-limits : base .«fixed_rotation» ≡ false → LimitImpulsesNonNegative j (solveRevolute base j h invH stateA stateB useBias .joint)
   solve-limits free = record { lower = solve-lower-nonNegative free; upper = solve-upper-nonNegative free }
 
-  -- no field of the joint changes but linear_impulse, perp_impulse, spring_impulse, motor_impulse, lower_impulse, upper_impulse, perp_axis_x and perp_axis_y
+  -- no field of the joint's record changes but linear_impulse, perp_impulse, spring_impulse, motor_impulse, lower_impulse, upper_impulse, perp_axis_x and
+  -- perp_axis_y; beside the record the two angles (`solve-angles`)
   pub solve-keeps :
       let s = solveRevolute base j h invH stateA stateB useBias .joint in
       s ≡ withImpulses j (s .«linear_impulse») (s .«perp_impulse») (s .«spring_impulse») (s .«motor_impulse») (s .«lower_impulse») (s .«upper_impulse»)
@@ -196,6 +197,12 @@ module _ (sim : JointSim) (context : StepContext) (stateA stateB : BodyState) (u
   pub solve-base : solveRevoluteJoint sim context stateA stateB useBias .joint .base ≡ sim .base
   unfolding solveRevoluteJoint
   solve-base = kept (λ (r : Solved). r .joint .base) (sim .base) (asRevolute (sim .«union_»)) _ _ refl (λ k. refl)
+
+  -- and of the whole joint nothing changes but that record (`solve-keeps`) and the two angles (`solve-angles`)
+  pub solve-joint-keeps : let next = solveRevoluteJoint sim context stateA stateB useBias .joint in next ≡ afterSolve sim (next .«union_») (next .angles)
+  unfolding solveRevoluteJoint
+  solve-joint-keeps =
+      always (λ (r : Solved). r .joint ≡ afterSolve sim (r .joint .«union_») (r .joint .angles)) (asRevolute (sim .«union_»)) _ _ refl (λ k. refl)
 
   -- a revolute joint stays one, and no other becomes one
   pub solve-case : isRevolute (solveRevoluteJoint sim context stateA stateB useBias .joint .«union_») ≡ isRevolute (sim .«union_»)

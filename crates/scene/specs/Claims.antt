@@ -226,7 +226,7 @@ pub record OnlyImpulses (before after : JointSim) : Type 0 where
   pub index-b : indexB (after .«union_») ≡ indexB (before .«union_»)
   pub settings : settingsOf after ≡ settingsOf before
 
--- `t` is `s` but for velocities of dynamic bodies that a listed joint names, and for what a solve writes of listed joints
+-- `t` is `s` but for velocities of dynamic bodies that a listed joint names, and for what a solve writes of listed joints, the two angles with it
 pub record OnlyChanges (s : Scene) (l : List Call) (t : Scene) : Type 0 where
   pub body-count : t .«body_count» ≡ s .«body_count»
   pub joint-count : t .«joint_count» ≡ s .«joint_count»

@@ -15,7 +15,7 @@ use Rattle.records.specs.declared.body.BodyState.{BodyState}
 use Rattle.records.specs.Body.{withFlags, withDeltaPosition}
 use Rattle.records.specs.declared.joint.JointBase.{JointBase}
 use Rattle.records.specs.declared.joint.JointSim.{JointSim}
-use Rattle.records.specs.Joint.{asSpherical, isSpherical, limitAngles, noAngles}
+use Rattle.records.specs.Joint.{asSpherical, isSpherical, limitAngles, noAngles, afterSolve}
 use Rattle.records.specs.declared.joint.SphericalJoint.{SphericalJoint}
 use Rattle.records.specs.Spherical.{withIndices}
 use Rattle.constraint.specs.declared.velocity.Velocities.{Velocities}
@@ -71,7 +71,8 @@ module _ (base : JointBase) (j : SphericalJoint) (h invH : Float) (stateA stateB
 
   -- ---- kept
 
-  -- A solve changes at most the six impulses: linear_impulse, spring_impulse, motor_impulse, lower_twist_impulse, upper_twist_impulse and swing_impulse.
+  -- Of the joint's record a solve changes at most the six impulses: linear_impulse, spring_impulse, motor_impulse, lower_twist_impulse, upper_twist_impulse and
+  -- swing_impulse; beside the record the two angles (`solve-angles`).
   pub solve-keeps :
       let next = solveSpherical base j h invH stateA stateB useBias .joint in
       next
@@ -229,6 +230,12 @@ module _ (sim : JointSim) (context : StepContext) (stateA stateB : BodyState) (u
   pub solve-base : solveSphericalJoint sim context stateA stateB useBias .joint .base ≡ sim .base
   unfolding solveSphericalJoint
   solve-base = kept (λ (r : Solved). r .joint .base) (sim .base) (asSpherical (sim .«union_»)) _ _ refl (λ k. refl)
+
+  -- and of the whole joint nothing changes but that record (`solve-keeps`) and the two angles (`solve-angles`)
+  pub solve-joint-keeps : let next = solveSphericalJoint sim context stateA stateB useBias .joint in next ≡ afterSolve sim (next .«union_») (next .angles)
+  unfolding solveSphericalJoint
+  solve-joint-keeps =
+      always (λ (r : Solved). r .joint ≡ afterSolve sim (r .joint .«union_») (r .joint .angles)) (asSpherical (sim .«union_»)) _ _ refl (λ k. refl)
 
   -- a spherical joint stays one, and no other becomes one
   pub solve-case : isSpherical (solveSphericalJoint sim context stateA stateB useBias .joint .«union_») ≡ isSpherical (sim .«union_»)

@@ -28,8 +28,8 @@ StopNumber = (joint : JointSim) → StopAnswer joint
 
 -- ==== Code
 
--- 'fixed rotation, weld and a refusal give 0'. C-11: 'a NaN angle counts as not arrived', so that no twist leaves the cone's 4 alone, no swing leaves that out,
--- and neither leaves 0
+-- 'fixed rotation, weld and a refusal give 0'. C-11: 'a NaN angle counts as not arrived': where the twist is NaN only the cone's 4 can stand, where the swing
+-- is NaN it cannot, and where both are the code is 0
 pub record CodeZero (joint : JointSim) : Type 0 where
   pub fixed : joint .base .«fixed_rotation» ≡ true → stopCode joint .code ≡ 0
   pub weld : (w : WeldJoint) → joint .«union_» ≡ Weld w → stopCode joint .code ≡ 0
@@ -38,7 +38,8 @@ pub record CodeZero (joint : JointSim) : Type 0 where
   pub no-swing : joint .angles .swing ≡ nan → stopCode joint .code ≤ 3
   pub no-angles : joint .angles ≡ noAngles → stopCode joint .code ≡ 0
 
--- A joint whose rotation is fixed, a weld, the empty case, and a joint whose two angles are NaN have code 0.
+-- A joint whose rotation is fixed, a weld, the empty case, and a joint whose two angles are NaN have code 0; with one of the two NaN, the stops that go by it
+-- count nothing.
 abbrev pub NoStops : Type 0
 NoStops = (joint : JointSim) → CodeZero joint
 

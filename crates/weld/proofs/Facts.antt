@@ -12,7 +12,7 @@ use Rattle.records.specs.declared.joint.WeldJoint.{WeldJoint}
 use Rattle.records.specs.declared.joint.JointBase.{JointBase}
 use Rattle.records.specs.declared.joint.JointSim.{JointSim}
 use Rattle.records.specs.Weld.{withIndices}
-use Rattle.records.specs.Joint.{asWeld, isWeld, noAngles}
+use Rattle.records.specs.Joint.{asWeld, isWeld, noAngles, afterSolve}
 use Rattle.constraint.specs.declared.answer.Prepared.{Prepared}
 use Rattle.constraint.specs.declared.answer.WarmStarted.{WarmStarted}
 use Rattle.constraint.specs.declared.answer.Solved.{Solved}
@@ -26,7 +26,7 @@ use Rattle.weld.specs.Weld.{prepareWeld, prepareWeldJoint, warmStartWeld
 
 -- ---- the stages by value
 
--- a solve changes `linear_impulse` and `angular_impulse`, and no other field of the joint
+-- of the joint's record a solve changes `linear_impulse` and `angular_impulse` and no other field; beside the record the two angles (`solve-angles`)
 pub solve-keeps : (base : JointBase) (j : WeldJoint) (a b : BodyState) (useBias : Bool)
     → let next = solveWeld base j a b useBias .joint in next ≡ withImpulses j (next .«linear_impulse») (next .«angular_impulse»)
 unfolding solveWeld
@@ -133,7 +133,12 @@ module _ (sim : JointSim) (c : StepContext) (a b : BodyState) (useBias : Bool) w
   unfolding solveWeldJoint
   solve-base = kept (λ (r : Solved). r .joint .base) (sim .base) (asWeld (sim .«union_»)) _ _ refl (λ k. refl)
 
-  -- and where its number is 0 it leaves NaN in both: a weld has no limit row
+  -- and of the whole joint nothing changes but that record (`solve-keeps`) and the two angles (`solve-angles`)
+  pub solve-joint-keeps : let next = solveWeldJoint sim c a b useBias .joint in next ≡ afterSolve sim (next .«union_») (next .angles)
+  unfolding solveWeldJoint
+  solve-joint-keeps = always (λ (r : Solved). r .joint ≡ afterSolve sim (r .joint .«union_») (r .joint .angles)) (asWeld (sim .«union_»)) _ _ refl (λ k. refl)
+
+  -- where its number is 0 it leaves NaN in both angles: a weld has no limit row
   pub solve-angles : solveWeldJoint sim c a b useBias .number ≡ 0 → solveWeldJoint sim c a b useBias .joint .angles ≡ noAngles
   unfolding solveWeldJoint
   solve-angles = accepted (λ (r : Solved). r .number) (λ (r : Solved). r .joint .angles ≡ noAngles) (asWeld (sim .«union_»)) _ _ refl (λ k. refl)
