@@ -21,6 +21,7 @@ BY_VALUE = (*SOLVES, "values")
 EACH = (*ALL, "values")
 PREPARES = ("stages", "values")
 LEAF, STAGE, VALUES = ("leaves",), ("stages",), ("values",)
+MARKED_SOLVES = ("stages", "direct", "values")  # a run of a list answers no marks
 
 
 class Missed(Exception):
@@ -184,13 +185,13 @@ def angle_versions():
     yield Version("angles: the twist stored as the swing", "stages.rs", put(spherical, SWING, TWIST), BY_VALUE)
     yield Version("angles: spherical, frames exchanged", "stages.rs",
                   put(ANGLES, RELATIVE, "inv_mul_quat(quat_b, quat_a)"), BY_VALUE)
-    yield Version("angles: revolute, frames exchanged", "aims.rs",
+    yield Version("angles: revolute, frames exchanged", "scene.rs",
                   put("pub fn flipped", "inv_mul_quat(a, b)", "inv_mul_quat(b, a)"), BY_VALUE)
     yield Version("angles: the bodies' turning left out", "scene.rs",
                   put("pub fn rotations", "mul_quat(turned, frame.q)", "{ let _ = turned; frame.q }"), BY_VALUE)
     # A flip below zero, or none, is not to be seen in an angle: the product that decides it is the s of the rotation, bit for
     # bit, and get_twist_angle takes a rotation with an s below zero as its negative. At zero it is.
-    yield Version("angles: revolute, quaternion flipped at zero", "aims.rs",
+    yield Version("angles: revolute, quaternion flipped at zero", "scene.rs",
                   put("pub fn flipped", "< 0.0", "<= 0.0"), STAGE)
     yield Version("angles: spherical, quaternion flipped at zero", "stages.rs", put(ANGLES, RELATIVE, FLIPPED_AT_ZERO), STAGE)
 
@@ -215,6 +216,38 @@ def stop_versions():
     for name, impulse in (("lower", "j.lower_twist_impulse"), ("upper", "j.upper_twist_impulse")):
         yield Version(f"stop code: {name} twist by the cone's switch", "values.rs",
                       put("fn stop_code", f"j.enable_twist_limit, {impulse}", f"j.enable_cone_limit, {impulse}"), VALUES)
+
+
+def mark_versions():
+    """Marks by another test, of another matrix, or of what has none."""
+    test, marked = "determinant > 1000.0", ("leaves", *MARKED_SOLVES)
+    report, mass = "pub fn report", "pub fn mass_mark"
+    fixed = " if !%s.fixed_rotation =>"
+    for name, behind, old, new, groups in (
+        ("solved at the threshold", "fn decided", test, "determinant >= 1000.0", marked),
+        ("a NaN solved", "fn decided", f"{test} * f32::MIN_POSITIVE", "!(determinant <= 1000.0 * f32::MIN_POSITIVE)", marked),
+        ("solve2 by |det|", "fn mark2", "call_det2(m)", "abs_float(call_det2(m))", marked),
+        ("solve3, invert_matrix by det itself", "fn mark3", "abs_float(det(m))", "det(m)", marked),
+        ("solved and fell back exchanged", "fn mark3", "decided(abs_float(det(m)))",
+         "match decided(abs_float(det(m))) { Solved => FellBack, _ => Solved }", marked),
+        ("those of the two rows exchanged", report, "Report { perp, point }", "Report { perp: point, point: perp }", MARKED_SOLVES),
+        ("perpendicular, though rotation is fixed", report, fixed % "joint", " =>", MARKED_SOLVES),
+        ("perpendicular, frame A's rotation left out", "pub fn perp_axes", "rotate_vector(quat_a, turned)",
+         "{ let _ = quat_a; turned }", MARKED_SOLVES),
+        ("point, none where rotation is fixed", report, "Report { perp, point }",
+         "Report { perp, point: if joint.fixed_rotation { Mark::None } else { point } }", MARKED_SOLVES),
+        ("point, the bodies' turning left out", "pub fn arms", "rotate_vector(states[index as usize].delta_rotation, frame.p)",
+         "{ let _ = (index, states); frame.p }", MARKED_SOLVES),
+        ("spherical's mass, though not inverted", mass, fixed % "prepared", " =>", PREPARES),
+        ("weld's mass, none where rotation is fixed", mass, "JointUnion::Weld(_) =>", "JointUnion::Weld(_)" + fixed % "prepared", PREPARES),
+        ("a mass of revolute", mass, "_ => Mark::None", "_ => mark3(inv_inertia_sum)", PREPARES),
+    ):
+        yield Version(f"marks: {name}", "marks.rs", put(behind, old, new), groups)
+    yield Version("marks: a refused prepare has one", "values.rs",
+                  put("fn answer(", "true => Mark::None", "true => crate::marks::mass_mark(&joint)"), VALUES)
+    yield Version("marks: a direct warm start has those of a solve", "direct.rs",
+                  put("fn answer(", "NO_REPORT.write", "(if refusal == 0 { crate::marks::report(&joint, &states) } else { NO_REPORT }).write"),
+                  ("direct",))
 
 
 VERSIONS = [
@@ -285,6 +318,7 @@ VERSIONS = [
     # The oracle's own text after documents 01 and 02.
     *kept_versions(),
     *angle_versions(),
+    *mark_versions(),
     *stop_versions(),
     Version("stop code: impulse of zero counts", "values.rs",
             put("fn stop_code", "impulse > 0.0", "impulse >= 0.0"), VALUES),

@@ -17,6 +17,7 @@ use Rattle.constraint.specs.declared.velocity.Velocities.{Velocities}
 use Rattle.constraint.specs.declared.answer.WarmStarted.{WarmStarted}
 use Rattle.constraint.specs.declared.answer.Solved.{Solved}
 use Rattle.constraint.specs.Velocity.{velocitiesOf}
+use Rattle.constraint.specs.Answer.{noReport}
 use Rattle.joint.specs.Stage.{Staged, staged, ofWarmStart, ofSolve, warmStartAs, warmStartJoint, solveAs, solveJoint, stageJoint}
 use Rattle.joint.proofs.Stages.{warmStartOf, solveOf, warm-start-of, solve-of, warm-start-joint}
 use Rattle.call_list.specs.Positions.{stageCode}
@@ -24,7 +25,7 @@ use Rattle.call_list.proofs.StageCodes.{warm-code, solve-code, no-code}
 
 -- the stage of the joint that a call reads; past the last slot nothing is worked
 abbrev pub stageIn : ℕ → JointSim → StepContext → BodyState → BodyState → ℕ → Staged
-stageIn slot joint context a b stage = cond (ltb slot 32) (stageJoint joint context a b stage) (staged joint (velocitiesOf a b))
+stageIn slot joint context a b stage = cond (ltb slot 32) (stageJoint joint context a b stage) (staged joint (velocitiesOf a b) noReport)
 
 -- an arm leaves the joints with that of the stage r stored, and the velocities of r
 pub record ArmWorked (js : List JointSim) (at : ℕ) (r : Staged) (next : List JointSim) (v : Velocities) : Type 0 where
@@ -73,22 +74,24 @@ module _ (js : List JointSim) (at : ℕ) (d : JointSim) (context : StepContext) 
 
   -- the empty case is refused by every stage
   empty-case : (u : JointUnion) → u ≡ Other
-      → staged j (velocitiesOf a b) ≡ cond (eqb stage 0) (ofWarmStart (warmStartAs u j a b)) (ofSolve (solveAs u j context a b (eqb stage 1)))
+      → staged j (velocitiesOf a b) noReport ≡ cond (eqb stage 0) (ofWarmStart (warmStartAs u j a b)) (ofSolve (solveAs u j context a b (eqb stage 1)))
   unfolding warmStartAs solveAs
   empty-case u e = rw e (by (eqb stage 0))
     where
-      by : (w : Bool) → staged j (velocitiesOf a b) ≡ cond w (ofWarmStart (warmStartAs Other j a b)) (ofSolve (solveAs Other j context a b (eqb stage 1)))
+      by : (w : Bool) → staged j (velocitiesOf a b) noReport ≡ cond w (ofWarmStart (warmStartAs Other j a b))
+          (ofSolve (solveAs Other j context a b (eqb stage 1)))
       by true = refl
       by false = refl
 
-  unworked : (ltb slot 32 ≡ false) ⊎ (j .«union_» ≡ Other) → staged j (velocitiesOf a b) ≡ its-stage
+  unworked : (ltb slot 32 ≡ false) ⊎ (j .«union_» ≡ Other) → staged j (velocitiesOf a b) noReport ≡ its-stage
   unfolding stageJoint
   unworked = ⊎-elim (λ past. rw past) (λ e. by (ltb slot 32) e)
     where
-      by : (s : Bool) → j .«union_» ≡ Other → staged j (velocitiesOf a b) ≡ cond s (stageJoint j context a b stage) (staged j (velocitiesOf a b))
+      by : (s : Bool) → j .«union_» ≡ Other → staged j (velocitiesOf a b) noReport ≡ cond s (stageJoint j context a b stage)
+          (staged j (velocitiesOf a b) noReport)
       by true e = empty-case (j .«union_») e
       by false e = refl
 
   -- in the arm of no kind nothing is worked
   pub worked-none : 6 ≤ c → next ≡ js → v ≡ velocitiesOf a b → ArmWorked js at its-stage next v
-  worked-none h n m = unmoved (staged j (velocitiesOf a b)) (unworked (no-code slot (j .«union_») stage (rw coded at h))) refl n m
+  worked-none h n m = unmoved (staged j (velocitiesOf a b) noReport) (unworked (no-code slot (j .«union_») stage (rw coded at h))) refl n m

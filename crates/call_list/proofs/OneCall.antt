@@ -14,6 +14,7 @@ use Rattle.records.specs.Body.{isDynamic, withVelocities, storeVelocities}
 use Rattle.records.specs.Joint.{unusedJoint}
 use Rattle.constraint.specs.declared.velocity.Velocities.{Velocities}
 use Rattle.constraint.specs.Velocity.{velocitiesOf}
+use Rattle.constraint.specs.Answer.{noReport}
 use Rattle.joint.specs.Stage.{staged, stageJoint}
 use Rattle.joint.specs.Index.{indexA, indexB}
 use Rattle.scene.specs.declared.Scene.{Scene}
@@ -62,7 +63,8 @@ module _ (s : Scene) (js : List JointSim) (us ws : List BodyState) (slot stage a
   b = getD ws pb e
 
   -- past the last slot
-  worked-past : ltb slot 32 ≡ false → ArmWorked js at (staged joint (velocitiesOf a b)) next v → CallWorked s js us (set (set ws pa na) pb nb) slot stage next
+  worked-past : ltb slot 32 ≡ false → ArmWorked js at (staged joint (velocitiesOf a b) noReport) next v
+      → CallWorked s js us (set (set ws pa na) pb nb) slot stage next
   unfolding velocitiesOf
   worked-past f arm =
       let na-is : na ≡ a = ka ∙ ap (λ x. storeVelocities a (x .«v_a») (x .«w_a»)) (arm .moved) ∙ own-stays a in
@@ -117,7 +119,7 @@ module _ (s : Scene) (js : List JointSim) (us ws : List BodyState) (slot stage a
       → CallWorked s js us (set (set ws pa na) pb nb) slot stage next
   call-worked ha hpa hpb arm = by (ltb slot 32) refl arm
     where
-      by : (t : Bool) → ltb slot 32 ≡ t → ArmWorked js at (cond t (stageJoint joint (s .context) a b stage) (staged joint (velocitiesOf a b))) next v
+      by : (t : Bool) → ltb slot 32 ≡ t → ArmWorked js at (cond t (stageJoint joint (s .context) a b stage) (staged joint (velocitiesOf a b) noReport)) next v
           → CallWorked s js us (set (set ws pa na) pb nb) slot stage next
       by true f arm = worked-in f ha hpa hpb arm
       by false f arm = worked-past f arm

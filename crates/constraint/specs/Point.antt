@@ -3,6 +3,7 @@ use mathlib.Core.Bool.{Bool, cond}
 use lib.Ieee.{Float}
 use Rattle.math_functions.specs.declared.types.Vec3.{Vec3}
 use Rattle.math_functions.specs.declared.types.Matrix3.{Matrix3}
+use Rattle.math_functions.specs.declared.mark.Mark.{Mark}
 use Rattle.math_functions.specs.Float.{_⊕_}
 use Rattle.math_functions.specs.Types.{vec3, matrix3}
 use Rattle.math_functions.specs.Vector.{add, sub, cross}
@@ -11,7 +12,11 @@ use Rattle.solver.specs.declared.Softness.{Softness}
 use Rattle.constraint.specs.declared.velocity.Velocities.{Velocities}
 use Rattle.constraint.specs.declared.velocity.InvMasses.{InvMasses}
 use Rattle.constraint.specs.declared.soft.SoftBias3.{SoftBias3}
+use Rattle.constraint.specs.declared.point.PointRow.{PointRow}
 use Rattle.constraint.specs.Soft.{softBias3, rigid3}
+
+abbrev pub pointResult : Vec3 → Velocities → Mark → PointRow
+pointResult impulse velocities mark = record { impulse = impulse; velocities = velocities; mark = mark }
 
 unfoldable pub pointBias : Bool → Softness → Vec3 → Vec3 → Vec3 → Vec3 → Vec3 → SoftBias3
 pointBias isSoft s rA rB dcA dcB deltaCenter =

@@ -4,16 +4,19 @@ ghost use mathlib.Core.Path.{_≡_};
 ghost use Rattle.constraint.specs.Answer as D;
 use crate::velocity::Velocities;
 use crate::velocity::velocities_of;
+use math_functions::mark::Mark;
 use records::body::BodyState;
 use records::joint::JointSim;
 
 // The number of a joint whose case is not the kind called.
 pub const WRONG_KIND: u32 = 1;
 
+// `mass_mark` is that of spherical's rotation mass and of weld's angular mass, where it is inverted.
 pub struct Prepared {
     pub number: u32,
     pub place: u32,
     pub joint: JointSim,
+    pub mass_mark: Mark,
 }
 
 pub struct WarmStarted {
@@ -23,11 +26,24 @@ pub struct WarmStarted {
     pub velocities: Velocities,
 }
 
+// What a solve reports of its rows: the marks of revolute's perpendicular row and of the point row.
+pub struct Report {
+    pub perp_mark: Mark,
+    pub point_mark: Mark,
+}
+
+// The report of a stage that worked no row.
+pub const NO_REPORT: Report = Report {
+    perp_mark: Mark::None,
+    point_mark: Mark::None,
+};
+
 pub struct Solved {
     pub number: u32,
     pub place: u32,
     pub joint: JointSim,
     pub velocities: Velocities,
+    pub report: Report,
 }
 
 pub fn warm_start_done(joint: JointSim, velocities: Velocities) -> WarmStarted

@@ -5,12 +5,20 @@ use crate::soft::RIGID3;
 use crate::soft::SoftBias3;
 use crate::soft::soft_bias3;
 use crate::velocity::Velocities;
+use math_functions::mark::Mark;
 use math_functions::types::Matrix3;
 use math_functions::types::Vec3;
 use math_functions::vector::add;
 use math_functions::vector::cross;
 use math_functions::vector::sub;
 use solver::Softness;
+
+// What a point row leaves, and the mark of its matrix.
+pub struct PointRow {
+    pub impulse: Vec3,
+    pub velocities: Velocities,
+    pub mark: Mark,
+}
 
 // The bias of the point row, where r_a and r_b reach from the centres to the anchors.
 pub fn point_bias(

@@ -1,5 +1,5 @@
 -- A direct call is worked, or refused. Assumes nothing.
-use mathlib.Core.Path.{_≡_, refl, sym, ap}
+use mathlib.Core.Path.{_≡_, refl, sym}
 use mathlib.Core.Logic.{_≢_}
 use mathlib.Core.Bool.{Bool, true, false, cond}
 use mathlib.Core.List.{List}
@@ -10,7 +10,7 @@ use borrow.Author.Tests.{eqb-true, eqb-false}
 use Rattle.records.specs.declared.body.BodyState.{BodyState}
 use Rattle.records.specs.declared.joint.JointSim.{JointSim}
 use Rattle.direct.specs.declared.call.StageCall.{StageCall}
-use Rattle.direct.specs.Direct.{cause, Outcome, answerOf, refused, done, stageAt, directCall}
+use Rattle.direct.specs.Direct.{cause, Outcome, refused, done, stageAt, directCall}
 
 module _ (call : StageCall) (joint : JointSim) (states : List BodyState) where
   abbrev pub its-cause : ℕ
@@ -36,5 +36,8 @@ module _ (call : StageCall) (joint : JointSim) (states : List BodyState) where
   pub refused-is : its-cause ≢ 0 → directCall call joint states ≡ its-refusal
   refused-is ne = by-outcome (λ o. o ≡ its-refusal) (λ e. absurd (ne e)) (λ n. refl)
 
-  pub answer-is : directCall call joint states .answer ≡ answerOf its-cause
-  answer-is = by-outcome (λ o. o .answer ≡ answerOf its-cause) (λ e. ap answerOf (sym e)) (λ ne. refl)
+  pub number-is : directCall call joint states .answer .number ≡ its-cause
+  number-is = by-outcome (λ o. o .answer .number ≡ its-cause) sym (λ ne. refl)
+
+  pub place-is : directCall call joint states .answer .place ≡ 0
+  place-is = by-outcome (λ o. o .answer .place ≡ 0) (λ e. refl) (λ ne. refl)

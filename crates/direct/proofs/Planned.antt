@@ -22,6 +22,7 @@ use Rattle.records.specs.declared.joint.JointUnion.{JointUnion}
 use Rattle.records.specs.declared.joint.JointUnion.the-variants.{Revolute, Spherical, Weld, Other}
 use Rattle.records.specs.Body.{identityBodyState}
 use Rattle.constraint.specs.declared.velocity.Velocities.{Velocities}
+use Rattle.constraint.specs.Answer.{noReport}
 use Rattle.records.specs.Joint.{caseOf}
 use Rattle.joint.specs.Stage.{Staged, staged, ofSolve, stageJoint}
 use Rattle.joint.specs.Index.{indexA, indexB, indexCause}
@@ -31,7 +32,7 @@ use Rattle.scene.specs.Plain.{storeBoth}
 use Rattle.scene.proofs.Stores.{store-long}
 use Rattle.direct.specs.declared.call.StageCall.{StageCall}
 use Rattle.direct.specs.declared.positions.Positions.{Positions}
-use Rattle.direct.specs.Direct.{isOfKind, cause, Outcome, refused, warmStart, solve, stageAt, directCall}
+use Rattle.direct.specs.Direct.{isOfKind, cause, Outcome, answerOf, refused, warmStart, solve, stageAt, directCall}
 use Rattle.direct.proofs.Outcomes.{its-cause, worked-is, refused-is}
 use Rattle.direct.specs.Steps.{positionOf, positionsOf, readStates, storeAt, writeStates}
 
@@ -71,9 +72,9 @@ is-kind kind n u = by u (isOfKind kind u) refl
 
 -- on such a joint the kind's stage is the stage of the joint
 module _ (joint : JointSim) (kind : ℕ) (a b : BodyState) (is : (caseOf (joint .«union_») ≡ kind) × (kind < 3)) where
-  warm-start-is : staged joint (warmStartOf kind joint a b .velocities) ≡ stageJoint joint (warmStart kind .context) a b 0
+  warm-start-is : staged joint (warmStartOf kind joint a b .velocities) noReport ≡ stageJoint joint (warmStart kind .context) a b 0
   unfolding stageJoint
-  warm-start-is = ap₂ staged (sym (warm-start-joint joint a b)) (ap (λ x. x .velocities) (warm-start-of kind joint a b (is .0) (is .1)))
+  warm-start-is = ap₂ (λ j v. staged j v noReport) (sym (warm-start-joint joint a b)) (ap (λ x. x .velocities) (warm-start-of kind joint a b (is .0) (is .1)))
 
   solve-is : (context : StepContext) (useBias : Bool)
       → ofSolve (solveOf kind joint context a b useBias) ≡ stageJoint joint context a b (cond useBias 1 2)
@@ -104,31 +105,35 @@ module _ (joint : JointSim) (s : List BodyState) where
         ap (storeAt (p .b) (v .«v_b») (v .«w_b»)) (writes s (length s) refl i (v .«v_a») (v .«w_a»))
         ∙ writes (store s i (v .«v_a») (v .«w_a»)) (length s) (store-long s i (v .«v_a») (v .«w_a»)) j (v .«v_b») (v .«w_b»)
 
-    -- what the steps leave, of what a stage by value leaves
-    abbrev pub leaves : Staged → Outcome
-    leaves r = record { answer = p .answer; joint = r .joint; states = writeStates p (r .velocities) s }
+    -- what the steps leave and answer, the number m, of what a stage by value leaves and reports
+    abbrev pub leaves : ℕ → Staged → Outcome
+    leaves m r = record { answer = answerOf m (r .report); joint = r .joint; states = writeStates p (r .velocities) s }
 
     pub refuses : T (not (eqb number 0)) → refused number joint s ≡ directCall call joint s
     refuses h = sym (refused-is call joint s (eqb-false number 0 (is-false (eqb number 0) h)))
 
     -- where that is the call's stage on the two states at the joint's indices
-    by-stage : (stage : BodyState → BodyState → Staged) → T (not (not (eqb number 0)))
+    by-stage : (m : ℕ) → m ≡ 0 → (stage : BodyState → BodyState → Staged) → T (not (not (eqb number 0)))
         → ((caseOf (joint .«union_») ≡ call .kind) × (call .kind < 3) → stage a b ≡ stageAt call joint s)
-        → let ab = readStates p s in leaves (stage (ab .«state_a») (ab .«state_b»)) ≡ directCall call joint s
-    by-stage stage h is =
+        → let ab = readStates p s in leaves m (stage (ab .«state_a») (ab .«state_b»)) ≡ directCall call joint s
+    by-stage m z stage h is =
         let e = zero-of number h in
         let read = ap₂ stage (reads s (indexA (joint .«union_»))) (reads s (indexB (joint .«union_»))) in
-        ap leaves (read ∙ is (is-kind (call .kind) (length s) (joint .«union_») e))
-        ∙ rw (e, stored (stageAt call joint s .velocities)) (sym (worked-is call joint s e))
+        ap (leaves m) (read ∙ is (is-kind (call .kind) (length s) (joint .«union_») e))
+        ∙ rw (z, stored (stageAt call joint s .velocities)) (sym (worked-is call joint s e))
 
   pub warm-started : (kind : ℕ) → T (not (not (eqb (number (warmStart kind)) 0)))
       → let ab = readStates (p (warmStart kind)) s in
-      leaves (warmStart kind) (staged joint (warmStartOf kind joint (ab .«state_a») (ab .«state_b») .velocities)) ≡ directCall (warmStart kind) joint s
-  warm-started kind h = by-stage (warmStart kind) (λ a b. staged joint (warmStartOf kind joint a b .velocities)) h (warm-start-is joint kind a b)
+      leaves (warmStart kind) (number (warmStart kind)) (staged joint (warmStartOf kind joint (ab .«state_a») (ab .«state_b») .velocities) noReport)
+      ≡ directCall (warmStart kind) joint s
+  warm-started kind h =
+      by-stage (warmStart kind) (number (warmStart kind)) (zero-of (number (warmStart kind)) h)
+      (λ a b. staged joint (warmStartOf kind joint a b .velocities) noReport) h (warm-start-is joint kind a b)
 
   pub solved : (kind : ℕ) (context : StepContext) (useBias : Bool) → T (not (not (eqb (number (solve kind context useBias)) 0)))
       → let ab = readStates (p (solve kind context useBias)) s in
-      leaves (solve kind context useBias) (ofSolve (solveOf kind joint context (ab .«state_a») (ab .«state_b») useBias))
+      leaves (solve kind context useBias) 0 (ofSolve (solveOf kind joint context (ab .«state_a») (ab .«state_b») useBias))
       ≡ directCall (solve kind context useBias) joint s
   solved kind context useBias h =
-      by-stage (solve kind context useBias) (λ a b. ofSolve (solveOf kind joint context a b useBias)) h (λ is. solve-is joint kind a b is context useBias)
+      by-stage (solve kind context useBias) 0 refl (λ a b. ofSolve (solveOf kind joint context a b useBias)) h
+      (λ is. solve-is joint kind a b is context useBias)

@@ -10,13 +10,15 @@ use lib.IntN.{pos}
 use lib.ListN.{length}
 use borrow.Author.Tests.{eqb-true, eqb-false, not-true, not-false}
 use Rattle.math_functions.specs.declared.types.Vec3.{Vec3}
+use Rattle.solver.specs.declared.StepContext.{StepContext}
 use Rattle.records.specs.declared.body.BodyState.{BodyState}
 use Rattle.records.specs.declared.joint.JointSim.{JointSim}
 use Rattle.records.specs.declared.joint.JointUnion.{JointUnion}
 use Rattle.records.specs.declared.joint.JointUnion.the-variants.{Revolute, Spherical, Weld, Other}
 use Rattle.records.specs.Body.{isDynamic, withVelocities, storeVelocities}
 use Rattle.records.specs.Joint.{caseOf}
-use Rattle.joint.specs.Stage.{Staged, stageJoint}
+use Rattle.constraint.specs.Answer.{noReport}
+use Rattle.joint.specs.Stage.{Staged, solveJoint, stageJoint}
 use Rattle.joint.specs.Index.{indexA, indexB, badIndex}
 use Rattle.scene.specs.Scene.{stateAt, store}
 use Rattle.scene.specs.Plain.{verdictOf, storeBoth}
@@ -29,8 +31,8 @@ use Rattle.scene.proofs.Accepted.{Says, says-of, says-other, says-index, Answer
 use Rattle.direct.specs.declared.call.StageCall.{StageCall}
 use Rattle.direct.specs.Direct.{isOfKind, cause, refused, done, stageAt, directCall, warmStart, solve}
 use Rattle.direct.specs.Claims.{Cause1, tests, Numbers, Acceptance, Range, Refusal, OnlyChanges, Changes, WarmStartKeeps}
-use Rattle.direct.specs.Claims.{PairStored, OneBodyTwice, OneCall, LimitsAfterCall}
-use Rattle.direct.proofs.Outcomes.{its-cause, by-outcome, answer-is}
+use Rattle.direct.specs.Claims.{PairStored, OneBodyTwice, OneCall, LimitsAfterCall, SolveReports, NoMarks}
+use Rattle.direct.proofs.Outcomes.{its-cause, by-outcome, number-is, place-is}
 use Rattle.direct.proofs.Stored.{at-b, pair-at}
 use Rattle.direct.proofs.OneCall.{same-end}
 
@@ -69,20 +71,19 @@ answers call joint states =
 
 pub numbers : Numbers
 numbers call joint states number ne =
-    let same = ap (λ a. a .number) (answer-is call joint states) in
+    let same = number-is call joint states in
     let given = answers-numbers (tests call joint states) (verdictOf (its-cause call joint states) 0) (answers call joint states) number 0 ne in
     (λ e. given .0 (sym same ∙ e, refl), λ h. same ∙ given .1 h .0)
 
 pub acceptance : Acceptance
 acceptance call joint states =
-    let is = answer-is call joint states in
-    let same = ap (λ a. a .number) is in
+    let same = number-is call joint states in
     let given = answers-none (tests call joint states) (verdictOf (its-cause call joint states) 0) (answers call joint states) in
-    ((λ e. given .0 (sym same ∙ e), λ h. same ∙ given .1 h), ap (λ a. a .place) is)
+    ((λ e. given .0 (sym same ∙ e), λ h. same ∙ given .1 h), place-is call joint states)
 
 pub range : Range
 range call joint states =
-    let same = ap (λ a. a .number) (answer-is call joint states) in
+    let same = number-is call joint states in
     rw same
     (answers-hold (λ n p. n ≤ 3) (tests call joint states) (verdictOf (its-cause call joint states) 0) (answers call joint states) (omega arith)
     (omega arith, (omega arith, (omega arith, tt))))
@@ -190,3 +191,32 @@ limits-after-call kind context useBias joint states e free =
     (λ z e. let u = joint .«union_» in
     solve-limits joint context (stateAt states (indexA u)) (stateAt states (indexB u)) (cond useBias 1 2) (a-solve useBias) free)
     (λ ne e. absurd (ne e)) e
+
+-- ---- marks
+
+solve-report : (joint : JointSim) (context : StepContext) (a b : BodyState) (useBias : Bool)
+    → stageJoint joint context a b (cond useBias 1 2) .report ≡ solveJoint joint context a b useBias .report
+unfolding stageJoint
+solve-report joint context a b true = refl
+solve-report joint context a b false = refl
+
+warm-start-report : (joint : JointSim) (context : StepContext) (a b : BodyState) → stageJoint joint context a b 0 .report ≡ noReport
+unfolding stageJoint
+warm-start-report joint context a b = refl
+
+pub solve-reports : SolveReports
+solve-reports kind context useBias joint states e =
+    let u = joint .«union_» in
+    let a = stateAt states (indexA u) in
+    let b = stateAt states (indexB u) in
+    by-outcome (solve kind context useBias) joint states
+    (λ o. o .answer .number ≡ 0 → o .answer .report ≡ solveJoint joint context a b useBias .report)
+    (λ z e. solve-report joint context a b useBias) (λ ne e. absurd (ne e)) e
+
+pub no-marks : NoMarks
+no-marks = record {
+  warm-start = λ kind joint states. by-outcome (warmStart kind) joint states (λ o. o .answer .report ≡ noReport)
+      (λ e. warm-start-report joint _ _ _) (λ ne. refl);
+  refused = λ call joint states. by-outcome call joint states (λ o. o .answer .number ≢ 0 → o .answer .report ≡ noReport)
+      (λ e ne. absurd (ne refl)) (λ ne ne′. refl);
+}

@@ -2,6 +2,7 @@
 -- of the fields.
 -- A type whose fields no walk reads has its machine value shut; of the others one level is shown.
 -- Assumes nothing, but for `made-…` and `typed-…`, which are over a model.
+use mathlib.Core.Path.{refl}
 use Prim.Native.Nat.{_<_, _^_}
 use mathlib.Core.List.{[], _∷_, List}
 use lib.Dec.{T}
@@ -20,6 +21,7 @@ use Rattle.records.specs.declared.body.BodyState.{BodyState}
 use Rattle.records.specs.declared.joint.JointSim.{JointSim}
 use Rattle.constraint.specs.declared.velocity.Velocities.{Velocities}
 use Rattle.constraint.specs.declared.answer.WarmStarted.{WarmStarted}
+use Rattle.constraint.specs.declared.answer.Report.{Report}
 use Rattle.constraint.specs.declared.answer.Solved.{Solved}
 use Rattle.joint.specs.declared.store.StatePair.{StatePair}
 use Rattle.direct.specs.declared.Answer.{Answer}
@@ -36,6 +38,8 @@ use Rattle.constraint.proofs.velocity.Velocities as Tv
 use Rattle.constraint.proofs.velocity.Velocities.Laws as Tv′
 use Rattle.constraint.proofs.answer.WarmStarted as Tm
 use Rattle.constraint.proofs.answer.WarmStarted.Laws as Tm′
+use Rattle.constraint.proofs.answer.Report as Tr
+use Rattle.constraint.proofs.answer.Report.Laws as Tr′
 use Rattle.constraint.proofs.answer.Solved as Tg
 use Rattle.constraint.proofs.answer.Solved.Laws as Tg′
 use Rattle.joint.proofs.store.StatePair as Tq
@@ -182,28 +186,45 @@ pub m-velocities : (y : WarmStarted) → Is Wm y (vals-m y) → Is Ve (y .veloci
 unfolding val-l val-j
 m-velocities y is = LL.owed Tm.the-type Tm′.the-laws y _ is .1 .1 .1 .0
 
+-- ---- Report
+
+abbrev pub Rp : RattleType
+Rp = Tr.the-row
+
+unfoldable pub val-r : Report → Val
+val-r y = LL.val Tr.the-type Tr′.the-laws y
+
+abbrev pub vals-r : Report → List Val
+vals-r y = val-r y ∷ []
+
 -- ---- Solved
 
 abbrev pub G : RattleType
 G = Tg.the-row
 
 abbrev pub val-g : Solved → Val
-val-g y = vstruct (vcons (vint w32 (y .number)) (vcons (vint w32 (y .place)) (vcons (val-j (y .joint)) (vcons (val-v (y .velocities)) vnil))))
+val-g y =
+    vstruct (vcons (vint w32 (y .number)) (vcons (vint w32 (y .place)) (vcons (val-j (y .joint)) (vcons (val-v (y .velocities))
+    (vcons (val-r (y .report)) vnil)))))
 
 abbrev pub vals-g : Solved → List Val
 vals-g y = val-g y ∷ []
 
 pub tells-g : Tells G (Is G) vals-g
-unfolding val-l val-j
+unfolding val-l val-j val-r
 tells-g = LL.tells Tg.the-type Tg′.the-laws
 
 pub g-joint : (y : Solved) → Is G y (vals-g y) → Is J (y .joint) (vals-j (y .joint))
-unfolding val-l val-j
+unfolding val-l val-j val-r
 g-joint y is = LL.owed Tg.the-type Tg′.the-laws y _ is .1 .1 .0
 
 pub g-velocities : (y : Solved) → Is G y (vals-g y) → Is Ve (y .velocities) (vals-v (y .velocities))
-unfolding val-l val-j
+unfolding val-l val-j val-r
 g-velocities y is = LL.owed Tg.the-type Tg′.the-laws y _ is .1 .1 .1 .0
+
+pub g-report : (y : Solved) → Is G y (vals-g y) → Is Rp (y .report) (vals-r (y .report))
+unfolding val-l val-j val-r
+g-report y is = LL.owed Tg.the-type Tg′.the-laws y _ is .1 .1 .1 .1 .0
 
 -- ---- Answer
 
@@ -211,13 +232,18 @@ abbrev pub Wn : RattleType
 Wn = Tw.the-row
 
 abbrev pub val-w : Answer → Val
-val-w y = vstruct (vcons (vint w32 (y .number)) (vcons (vint w32 (y .place)) vnil))
+val-w y = vstruct (vcons (vint w32 (y .number)) (vcons (vint w32 (y .place)) (vcons (val-r (y .report)) vnil)))
 
 abbrev pub vals-w : Answer → List Val
 vals-w y = val-w y ∷ []
 
 pub tells-w : Tells Wn (Is Wn) vals-w
+unfolding val-r
 tells-w = LL.tells Tw.the-type Tw′.the-laws
+
+pub w-of : (y : Answer) → y .number < 2 ^ 32 → y .place < 2 ^ 32 → Is Rp (y .report) (vals-r (y .report)) → Is Wn y (vals-w y)
+unfolding val-r
+w-of y n-fits p-fits r-is = LL.owes Tw.the-type Tw′.the-laws y ((refl, n-fits), ((refl, p-fits), (r-is, tt)))
 
 -- ---- Positions
 
@@ -231,15 +257,19 @@ abbrev pub vals-p : Positions → List Val
 vals-p y = val-p y ∷ []
 
 pub tells-p : Tells P (Is P) vals-p
+unfolding val-r
 tells-p = LL.tells Tp.the-type Tp′.the-laws
 
 pub p-answer : (y : Positions) → Is P y (vals-p y) → Is Wn (y .answer) (vals-w (y .answer))
+unfolding val-r
 p-answer y is = LL.owed Tp.the-type Tp′.the-laws y _ is .0
 
 pub p-a : (y : Positions) → Is P y (vals-p y) → y .a < 2 ^ 64
+unfolding val-r
 p-a y is = LL.owed Tp.the-type Tp′.the-laws y _ is .1 .0 .1
 
 pub p-b : (y : Positions) → Is P y (vals-p y) → y .b < 2 ^ 64
+unfolding val-r
 p-b y is = LL.owed Tp.the-type Tp′.the-laws y _ is .1 .1 .0 .1
 
 -- ---- over a model
@@ -299,11 +329,13 @@ module _ {M : Type 1} (𝓤 : URA M) (H : Heap 𝓤) (A : Atoms 𝓤) where
     typed-m y is = LL.lawful Tm.the-type Tm′.the-laws 𝓤 H A W .typed y _ is .0
 
     pub typed-g : (y : Solved) → Is G y (vals-g y) → T (hasTy Tg′.mir (val-g y)) × WT (val-g y)
-    unfolding val-l val-j
+    unfolding val-l val-j val-r
     typed-g y is = LL.lawful Tg.the-type Tg′.the-laws 𝓤 H A W .typed y _ is .0
 
     pub typed-w : (y : Answer) → Is Wn y (vals-w y) → T (hasTy Tw′.mir (val-w y)) × WT (val-w y)
+    unfolding val-r
     typed-w y is = LL.lawful Tw.the-type Tw′.the-laws 𝓤 H A W .typed y _ is .0
 
     pub typed-p : (y : Positions) → Is P y (vals-p y) → T (hasTy Tp′.mir (val-p y)) × WT (val-p y)
+    unfolding val-r
     typed-p y is = LL.lawful Tp.the-type Tp′.the-laws 𝓤 H A W .typed y _ is .0

@@ -50,6 +50,7 @@ use Rattle.records.specs.declared.body.BodyState.{BodyState}
 use Rattle.records.specs.declared.joint.JointSim.{JointSim}
 use Rattle.constraint.specs.declared.velocity.Velocities.{Velocities}
 use Rattle.constraint.specs.declared.answer.WarmStarted.{WarmStarted}
+use Rattle.constraint.specs.Answer.{noReport}
 use Rattle.joint.specs.declared.store.StatePair.{StatePair}
 use Rattle.joint.specs.Stage.{staged}
 use Rattle.joint.proofs.Stages.{warmStartOf}
@@ -302,7 +303,8 @@ module _ {M : Type 1} (𝓤 : URA M) (H : Heap 𝓤) (A : Atoms 𝓤) (W : Given
           walk 𝓤 H A W mem run k k-fits κ κ′ q q′ b o γ h b′ o′ γ′ ys room Tj′.mir (Tm.the-type .name) warmed-fields refl joint-mir (typed-j 𝓤 H A W h)
           (typed-m 𝓤 H A W wm) (Post 𝓤 H A W mem run k k-fits κ κ′ q q′ b o γ h b′ o′ γ′ ys room bounds)
           (λ w-is no. out (refused (pl .answer .number) h ys) (refuses h ys (warmStart k) no) refl refl w-is)
-          (λ w-is yes. out (leaves h ys (warmStart k) (staged h (wm .velocities))) (warm-started h ys k yes) refl (write-long pl (wm .velocities) ys) w-is)
+          (λ w-is yes. out (leaves h ys (warmStart k) (pl .answer .number) (staged h (wm .velocities) noReport)) (warm-started h ys k yes) refl
+          (write-long pl (wm .velocities) ys) w-is)
           #stage C Λ fm known-find known-read known-stage known-write
 
 pub meets : (k : ℕ) (k-fits : T (ltb k (2 ^ 8))) (#stage : Name) {M : Type 1} (𝓤 : URA M) (H : Heap 𝓤) (A : Atoms 𝓤) → Given 𝓤 H A

@@ -16,9 +16,10 @@ use Rattle.records.specs.declared.joint.JointUnion.the-variants.{Other}
 use Rattle.scene.specs.declared.Scene.{Scene}
 use Rattle.records.specs.Body.{isDynamic, withVelocities}
 use Rattle.constraint.specs.declared.velocity.Velocities.{Velocities}
+use Rattle.constraint.specs.Answer.{noReport}
 use Rattle.joint.specs.Index.{indexA, indexB}
 use Rattle.records.specs.Joint.{caseOf}
-use Rattle.joint.specs.Stage.{stageJoint}
+use Rattle.joint.specs.Stage.{solveJoint, stageJoint}
 use Rattle.joint.specs.Store.{statePair, storePair}
 use Rattle.scene.specs.Scene.{jointAt, stateAt, NamesBody}
 use Rattle.scene.specs.Plain.{storeBoth, plainRun}
@@ -154,3 +155,19 @@ LimitsAfterCall = (kind : ℕ) (context : StepContext) (useBias : Bool) (joint :
     → directCall (solve kind context useBias) joint states .answer .number ≡ 0
     → joint .base .«fixed_rotation» ≡ false
     → LimitsNonNegative (joint .«union_») (directCall (solve kind context useBias) joint states .joint .«union_»)
+
+-- ==== C-15's marks
+
+-- 'Each solve's answer passes on the marks', direct as by value: an accepted direct solve reports what the solve by value of the joint reports, on the states
+-- at the joint's two indices (`SolveMarks` of `joint` says what that is).
+abbrev pub SolveReports : Type 0
+SolveReports = (kind : ℕ) (context : StepContext) (useBias : Bool) (joint : JointSim) (states : List BodyState)
+    → directCall (solve kind context useBias) joint states .answer .number ≡ 0
+    → directCall (solve kind context useBias) joint states .answer .report
+    ≡ solveJoint joint context (stateAt states (indexA (joint .«union_»))) (stateAt states (indexB (joint .«union_»))) useBias .report
+
+-- A warm start, refused or not, works no row, nor does a refused call: both marks are none.
+pub record NoMarks : Type 0 where
+  pub warm-start : (kind : ℕ) (joint : JointSim) (states : List BodyState) → directCall (warmStart kind) joint states .answer .report ≡ noReport
+  pub refused : (call : StageCall) (joint : JointSim) (states : List BodyState) → directCall call joint states .answer .number ≢ 0
+      → directCall call joint states .answer .report ≡ noReport

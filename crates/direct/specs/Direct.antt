@@ -12,6 +12,8 @@ use Rattle.records.specs.declared.body.BodyState.{BodyState}
 use Rattle.records.specs.declared.joint.JointUnion.{JointUnion}
 use Rattle.records.specs.declared.joint.JointUnion.the-variants.{Revolute, Spherical, Weld, Other}
 use Rattle.records.specs.declared.joint.JointSim.{JointSim}
+use Rattle.constraint.specs.declared.answer.Report.{Report}
+use Rattle.constraint.specs.Answer.{noReport}
 use Rattle.joint.specs.Stage.{Staged, stageJoint}
 use Rattle.joint.specs.Index.{indexA, indexB, indexCause}
 use Rattle.scene.specs.Scene.{stateAt}
@@ -62,12 +64,12 @@ pub record Outcome : Type 0 where
   pub states : List BodyState
 
 -- 'a direct stage call has place 0'
-abbrev pub answerOf : ℕ → Answer
-answerOf number = record { number = number; place = 0 }
+abbrev pub answerOf : ℕ → Report → Answer
+answerOf number r = record { number = number; place = 0; report = r }
 
--- a refusal leaves all as it was
+-- a refusal leaves all as it was, and reports nothing
 abbrev pub refused : ℕ → JointSim → List BodyState → Outcome
-refused number joint states = record { answer = answerOf number; joint = joint; states = states }
+refused number joint states = record { answer = answerOf number noReport; joint = joint; states = states }
 
 -- the stage of the joint, on the states at its two indices: 'both states are read first', and -1 reads the identity state
 abbrev pub stageAt : StageCall → JointSim → List BodyState → Staged
@@ -75,9 +77,9 @@ stageAt call joint states =
     let union = joint .«union_» in
     stageJoint joint (call .context) (stateAt states (indexA union)) (stateAt states (indexB union)) (call .stage)
 
--- the joint that the stage leaves, and the states 'stored back, A then B, only if dynamic'; -1 is never written, and only velocities change
+-- what the stage reports, the joint that it leaves, and the states 'stored back, A then B, only if dynamic'; -1 is never written, and only velocities change
 abbrev pub done : JointSim → List BodyState → Staged → Outcome
-done joint states r = record { answer = answerOf 0; joint = r .joint; states = storeBoth states (joint .«union_») (r .velocities) }
+done joint states r = record { answer = answerOf 0 (r .report); joint = r .joint; states = storeBoth states (joint .«union_») (r .velocities) }
 
 -- a direct call: 'its body count is the length of the lent slice'
 unfoldable pub directCall : StageCall → JointSim → List BodyState → Outcome

@@ -9,6 +9,7 @@ use Rattle.records.specs.declared.body.BodyState.{BodyState}
 use Rattle.records.specs.declared.joint.JointSim.{JointSim}
 use Rattle.records.specs.Body.{storeVelocities, identityBodyState}
 use Rattle.constraint.specs.declared.velocity.Velocities.{Velocities}
+use Rattle.constraint.specs.Answer.{noReport}
 use Rattle.joint.specs.declared.store.StatePair.{StatePair}
 use Rattle.joint.specs.Store.{statePair}
 use Rattle.joint.specs.Index.{indexA, indexB}
@@ -23,7 +24,7 @@ positionOf n (negsuc k) = n
 abbrev pub positionsOf : ℕ → JointSim → ℕ → Positions
 positionsOf kind joint n =
     let union = joint .«union_» in
-    record { answer = answerOf (cause kind union n); a = positionOf n (indexA union); b = positionOf n (indexB union) }
+    record { answer = answerOf (cause kind union n) noReport; a = positionOf n (indexA union); b = positionOf n (indexB union) }
 
 abbrev pub readStates : Positions → List BodyState → StatePair
 readStates p states = statePair (getD states (p .a) identityBodyState) (getD states (p .b) identityBodyState)

@@ -5,6 +5,7 @@ ghost use Rattle.direct.specs.Direct as D;
 use crate::positions::find_positions;
 use crate::states::read_states;
 use crate::states::write_states;
+use constraint::answer::Report;
 use records::body::BodyState;
 use records::joint::JointSim;
 use solver::StepContext;
@@ -13,10 +14,12 @@ mod call;
 mod positions;
 mod states;
 
-// What a direct call answers: a number, which is 0 where the work was done, and place 0.
+// What a direct call answers: a number, which is 0 where the work was done, place 0, and what a solve
+// reports of its rows.
 pub struct Answer {
     pub number: u32,
     pub place: u32,
+    pub report: Report,
 }
 
 pub fn warm_start_revolute_joint(joint: &mut JointSim, states: &mut [BodyState]) -> Answer
@@ -82,7 +85,11 @@ pub fn solve_revolute_joint(
     let s = revolute::solve_revolute_joint(*joint, context, pair.state_a, pair.state_b, use_bias);
     *joint = s.joint;
     write_states(states, positions, s.velocities);
-    positions.answer
+    Answer {
+        number: 0,
+        place: 0,
+        report: s.report,
+    }
 }
 
 pub fn solve_spherical_joint(
@@ -103,7 +110,11 @@ pub fn solve_spherical_joint(
     let s = spherical::solve_spherical_joint(*joint, context, pair.state_a, pair.state_b, use_bias);
     *joint = s.joint;
     write_states(states, positions, s.velocities);
-    positions.answer
+    Answer {
+        number: 0,
+        place: 0,
+        report: s.report,
+    }
 }
 
 pub fn solve_weld_joint(
@@ -124,5 +135,9 @@ pub fn solve_weld_joint(
     let s = weld::solve_weld_joint(*joint, context, pair.state_a, pair.state_b, use_bias);
     *joint = s.joint;
     write_states(states, positions, s.velocities);
-    positions.answer
+    Answer {
+        number: 0,
+        place: 0,
+        report: s.report,
+    }
 }

@@ -3,6 +3,7 @@ ghost use mathlib.Core.Path.{_≡_};
 ghost use Rattle.direct.specs.Direct as D;
 ghost use Rattle.direct.specs.Steps as S;
 use crate::Answer;
+use constraint::answer::NO_REPORT;
 use joint::index::index_cause;
 use joint::index::indices_of;
 use records::joint::JointSim;
@@ -53,7 +54,11 @@ pub fn find_positions(kind: u8, joint: JointSim, n: usize) -> Positions
 {
     let union_ = joint.union_;
     let number = cause_of(kind, union_, n);
-    let answer = Answer { number, place: 0 };
+    let answer = Answer {
+        number,
+        place: 0,
+        report: NO_REPORT,
+    };
     let i = indices_of(union_);
     if i.a < 0 {
         let b = position_of(n, i.b);

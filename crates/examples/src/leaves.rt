@@ -67,11 +67,11 @@ pub fn is_6() -> bool {
             z: 2.0,
         },
     };
-    is_vec3(solve3(m, two_four_six()), ONE, TWO, THREE)
+    is_vec3(solve3(m, two_four_six()).value, ONE, TWO, THREE)
 }
 
 pub fn is_7() -> bool {
-    is_vec3(solve3(MAT3_ZERO, two_four_six()), ZERO, ZERO, ZERO)
+    is_vec3(solve3(MAT3_ZERO, two_four_six()).value, ZERO, ZERO, ZERO)
 }
 
 fn diagonal(x: f32, y: f32) -> Mat2 {
@@ -83,7 +83,7 @@ fn diagonal(x: f32, y: f32) -> Mat2 {
 
 pub fn is_8() -> bool {
     is_vec2(
-        solve2(diagonal(2.0, 4.0), Vec2 { x: 2.0, y: 4.0 }),
+        solve2(diagonal(2.0, 4.0), Vec2 { x: 2.0, y: 4.0 }).value,
         ONE,
         ONE,
     )
@@ -91,7 +91,7 @@ pub fn is_8() -> bool {
 
 pub fn is_9() -> bool {
     is_vec2(
-        solve2(diagonal(2.0, -4.0), Vec2 { x: 2.0, y: 4.0 }),
+        solve2(diagonal(2.0, -4.0), Vec2 { x: 2.0, y: 4.0 }).value,
         ZERO,
         ZERO,
     )

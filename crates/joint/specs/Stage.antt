@@ -8,9 +8,10 @@ use Rattle.records.specs.declared.joint.JointSim.{JointSim}
 use Rattle.records.specs.declared.joint.JointUnion.{JointUnion}
 use Rattle.records.specs.declared.joint.JointUnion.the-variants.{Revolute, Spherical, Weld, Other}
 use Rattle.constraint.specs.declared.velocity.Velocities.{Velocities}
+use Rattle.constraint.specs.declared.answer.Report.{Report}
 use Rattle.constraint.specs.declared.answer.WarmStarted.{WarmStarted}
 use Rattle.constraint.specs.declared.answer.Solved.{Solved}
-use Rattle.constraint.specs.Answer.{notWarmStarted, notSolved}
+use Rattle.constraint.specs.Answer.{noReport, notWarmStarted, notSolved}
 use Rattle.revolute.specs.Revolute.{warmStartRevoluteJoint, solveRevoluteJoint}
 use Rattle.spherical.specs.Spherical.{warmStartSphericalJoint, solveSphericalJoint}
 use Rattle.weld.specs.Weld.{warmStartWeldJoint, solveWeldJoint}
@@ -34,19 +35,21 @@ solveAs Other joint context stateA stateB useBias = notSolved joint stateA state
 abbrev pub solveJoint : JointSim → StepContext → BodyState → BodyState → Bool → Solved
 solveJoint joint context stateA stateB useBias = solveAs (joint .«union_») joint context stateA stateB useBias
 
--- what a stage leaves: the joint, and the velocities of its two bodies
+-- what a stage leaves, the joint and the velocities of its two bodies, and what it reports
 pub record Staged : Type 0 where
   pub joint : JointSim
   pub velocities : Velocities
+  pub report : Report
 
-abbrev pub staged : JointSim → Velocities → Staged
-staged joint velocities = record { joint = joint; velocities = velocities }
+abbrev pub staged : JointSim → Velocities → Report → Staged
+staged joint velocities r = record { joint = joint; velocities = velocities; report = r }
 
+-- a warm start works no row
 abbrev pub ofWarmStart : WarmStarted → Staged
-ofWarmStart r = staged (r .joint) (r .velocities)
+ofWarmStart r = staged (r .joint) (r .velocities) noReport
 
 abbrev pub ofSolve : Solved → Staged
-ofSolve r = staged (r .joint) (r .velocities)
+ofSolve r = staged (r .joint) (r .velocities) (r .report)
 
 -- document 01's stages: 0 warm start, 1 solve with bias, 2 solve without, and so is any other, which no accepted call has
 unfoldable pub stageJoint : JointSim → StepContext → BodyState → BodyState → ℕ → Staged

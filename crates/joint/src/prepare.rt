@@ -3,6 +3,7 @@ ghost use mathlib.Core.Path.{_≡_};
 ghost use Rattle.joint.specs.Prepare as D;
 use constraint::answer::Prepared;
 use constraint::answer::WRONG_KIND;
+use math_functions::mark::Mark;
 use records::body::BodyRecord;
 use records::joint::JointSim;
 use records::joint::JointUnion;
@@ -29,6 +30,7 @@ pub fn prepare_joint(
             number: WRONG_KIND,
             place: 0,
             joint,
+            mass_mark: Mark::None,
         },
     }
 }

@@ -19,7 +19,7 @@ use denote.Slice.{Room}
 use denote.Struct.Laws as LL
 use borrow.Struct.Items.{is-same}
 use Rattle.direct.specs.declared.call.StageCall.{StageCall}
-use Rattle.direct.specs.Direct.{answerOf, directCall}
+use Rattle.direct.specs.Direct.{directCall}
 use Rattle.records.specs.declared.body.BodyState.{BodyState}
 use Rattle.records.specs.declared.joint.JointSim.{JointSim}
 use Rattle.lent_calls.specs.declared.Lent.{Lent}
@@ -77,9 +77,6 @@ module _ {M : Type 1} (𝓤 : URA M) (H : Heap 𝓤) (A : Atoms 𝓤) (W : Given
 
   abbrev pub answer : Data 𝓤 H A
   answer = struct 𝓤 H A W Tw.the-type Tw′.the-laws Tw′.the-plain Tw′.mir refl
-
-  pub answer-zero : Of answer (answerOf 0)
-  answer-zero = LL.owes Tw.the-type Tw′.the-laws (answerOf 0) ((refl, lit< tt), ((refl, lit< tt), tt))
 
   -- ---- a `Lent`, by its parts
   module _ (y : Lent) where

@@ -5,6 +5,8 @@ use Prim.Native.Nat.{ℕ, zero, suc}
 use lib.ListN.{take, drop}
 use Rattle.records.specs.declared.body.BodyState.{BodyState}
 use Rattle.records.specs.declared.joint.JointSim.{JointSim}
+use Rattle.constraint.specs.Answer.{noReport}
+use Rattle.direct.specs.declared.Answer.{Answer}
 use Rattle.direct.specs.declared.call.StageCall.{StageCall}
 use Rattle.direct.specs.Direct.{answerOf, Outcome, directCall}
 use Rattle.lent_calls.specs.declared.Lent.{Lent}
@@ -17,7 +19,11 @@ beside rest out = record { answer = out .answer; joint = out .joint; states = ou
 abbrev pub oneMore : StageCall → ℕ → Lent → Lent
 oneMore call bodyCount before = beside (drop bodyCount (before .states)) (directCall call (before .joint) (take bodyCount (before .states)))
 
--- what so many calls answer and leave: the answer is the last one's, and number 0 where there was no call
+-- before there is a call: number 0, and no mark
+abbrev pub noAnswer : Answer
+noAnswer = answerOf 0 noReport
+
+-- what so many calls answer and leave: the answer is the last one's
 unfoldable pub lentCalls : StageCall → JointSim → List BodyState → ℕ → ℕ → Lent
-lentCalls call joint states bodyCount zero = record { answer = answerOf 0; joint = joint; states = states }
+lentCalls call joint states bodyCount zero = record { answer = noAnswer; joint = joint; states = states }
 lentCalls call joint states bodyCount (suc calls) = oneMore call bodyCount (lentCalls call joint states bodyCount calls)

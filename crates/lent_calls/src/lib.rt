@@ -8,6 +8,7 @@ ghost use mathlib.Core.Path.{_≡_};
 ghost use Prim.Native.Nat.{min};
 ghost use Rattle.direct.specs.Direct as D;
 ghost use Rattle.lent_calls.specs.Lent as L;
+use constraint::answer::NO_REPORT;
 use direct::Answer;
 use direct::solve_revolute_joint;
 use direct::solve_spherical_joint;
@@ -19,7 +20,7 @@ use records::body::BodyState;
 use records::joint::JointSim;
 use solver::StepContext;
 
-// What the last call answered (number 0 and place 0 where there was none), and what the calls left.
+// What the last call answered (number 0, place 0 and no mark where there was none), and what the calls left.
 pub struct Lent {
     pub answer: Answer,
     pub joint: JointSim,
@@ -36,6 +37,17 @@ fn lent_count(body_count: usize) -> usize
     40
 }
 
+// What is answered before there is a call.
+fn no_answer() -> Answer
+    ensures { λ r. ⌜ r ≡ L.noAnswer ⌝ }
+{
+    Answer {
+        number: 0,
+        place: 0,
+        report: NO_REPORT,
+    }
+}
+
 pub fn lend_warm_start_revolute_joint(
     mut joint: JointSim,
     mut states: [BodyState; 40],
@@ -45,10 +57,7 @@ pub fn lend_warm_start_revolute_joint(
     ensures { λ r. ⌜ r ≡ L.lentCalls (D.warmStart D.revolute) joint states «body_count» calls ⌝ }
 {
     let n = lent_count(body_count);
-    let mut answer = Answer {
-        number: 0,
-        place: 0,
-    };
+    let mut answer = no_answer();
     let mut i = 0u64;
     if i < calls {
         answer = warm_start_revolute_joint(&mut joint, &mut states[..n]);
@@ -74,10 +83,7 @@ pub fn lend_warm_start_spherical_joint(
     ensures { λ r. ⌜ r ≡ L.lentCalls (D.warmStart D.spherical) joint states «body_count» calls ⌝ }
 {
     let n = lent_count(body_count);
-    let mut answer = Answer {
-        number: 0,
-        place: 0,
-    };
+    let mut answer = no_answer();
     let mut i = 0u64;
     if i < calls {
         answer = warm_start_spherical_joint(&mut joint, &mut states[..n]);
@@ -103,10 +109,7 @@ pub fn lend_warm_start_weld_joint(
     ensures { λ r. ⌜ r ≡ L.lentCalls (D.warmStart D.weld) joint states «body_count» calls ⌝ }
 {
     let n = lent_count(body_count);
-    let mut answer = Answer {
-        number: 0,
-        place: 0,
-    };
+    let mut answer = no_answer();
     let mut i = 0u64;
     if i < calls {
         answer = warm_start_weld_joint(&mut joint, &mut states[..n]);
@@ -134,10 +137,7 @@ pub fn lend_solve_revolute_joint(
     ensures { λ r. ⌜ r ≡ L.lentCalls (D.solve D.revolute context «use_bias») joint states «body_count» calls ⌝ }
 {
     let n = lent_count(body_count);
-    let mut answer = Answer {
-        number: 0,
-        place: 0,
-    };
+    let mut answer = no_answer();
     let mut i = 0u64;
     if i < calls {
         answer = solve_revolute_joint(&mut joint, context, &mut states[..n], use_bias);
@@ -165,10 +165,7 @@ pub fn lend_solve_spherical_joint(
     ensures { λ r. ⌜ r ≡ L.lentCalls (D.solve D.spherical context «use_bias») joint states «body_count» calls ⌝ }
 {
     let n = lent_count(body_count);
-    let mut answer = Answer {
-        number: 0,
-        place: 0,
-    };
+    let mut answer = no_answer();
     let mut i = 0u64;
     if i < calls {
         answer = solve_spherical_joint(&mut joint, context, &mut states[..n], use_bias);
@@ -196,10 +193,7 @@ pub fn lend_solve_weld_joint(
     ensures { λ r. ⌜ r ≡ L.lentCalls (D.solve D.weld context «use_bias») joint states «body_count» calls ⌝ }
 {
     let n = lent_count(body_count);
-    let mut answer = Answer {
-        number: 0,
-        place: 0,
-    };
+    let mut answer = no_answer();
     let mut i = 0u64;
     if i < calls {
         answer = solve_weld_joint(&mut joint, context, &mut states[..n], use_bias);

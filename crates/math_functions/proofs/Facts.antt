@@ -79,7 +79,23 @@ negative-below-threshold (inf s) e = e
 negative-below-threshold (fin true m x) e = some-above _ (down x) (down-pos x)
 negative-below-threshold (fin false m x) e = let less = ltb-true (m * up x * 1) (0 * 1 * down x) e in absurd (omega (arith, less))
 
--- and a NaN is not
+-- and so not above it
+pub negative-not-above-threshold : (x : Float) → lt x zero ≡ true → gt x threshold ≡ false
+unfolding Ieee.lt Ieee.ofBits Ieee.mul
+negative-not-above-threshold nan e = absurd (false≢true e)
+negative-not-above-threshold (inf s) e = rw e
+negative-not-above-threshold (fin true m x) e = refl
+negative-not-above-threshold (fin false m x) e = let less = ltb-true (m * up x * 1) (0 * 1 * down x) e in absurd (omega (arith, less))
+
+-- the threshold is not above itself, nor is a NaN
+pub threshold-not-above : gt threshold threshold ≡ false
+unfolding Ieee.lt Ieee.ofBits Ieee.mul
+threshold-not-above = refl
+
+pub nan-not-above-threshold : gt nan threshold ≡ false
+nan-not-above-threshold = lt-nan threshold
+
+-- a NaN is not below it either
 pub nan-not-below-threshold : lt nan threshold ≡ false
 unfolding Ieee.lt
 nan-not-below-threshold = refl

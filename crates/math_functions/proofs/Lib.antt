@@ -1,4 +1,6 @@
--- Facts of the leaves (`Facts`), which numbers the constants are (`Constants`), and what the functions' proofs cite, on plain values. Assumes nothing.
+-- Facts of the leaves (`Facts`), their marks (`Marks`), which numbers the constants are (`Constants`), and what the functions' proofs cite, on plain values.
+-- Assumes nothing.
 pub mod Constants
 pub mod Facts
+pub mod Marks
 mod Roots

@@ -4,7 +4,9 @@ pub mod Scalar
 pub mod Vector
 pub mod Internal
 pub mod Quat
+pub mod Mark
 pub mod Matrix
 pub mod Transform
 pub mod Constants
 pub mod Steps
+pub mod Claims

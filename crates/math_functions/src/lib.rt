@@ -2,6 +2,7 @@
 // stages use of box3d's math_functions, module by module.
 mod arctangent;
 pub mod internal;
+pub mod mark;
 pub mod matrix;
 pub mod quat;
 pub mod scalar;

@@ -2,7 +2,7 @@
 ghost use Prim.Native.Nat.{_+_, _≤_};
 ghost use lib.ListN.{length};
 use crate::agreement::Agreement;
-use crate::agreement::without_angles;
+use crate::agreement::nothing_apart;
 use crate::counts::Counts;
 use crate::counts::no_cases;
 use crate::counts::one_more;
@@ -32,14 +32,13 @@ pub struct Block {
     pub counts: Counts,
 }
 
-// Whether the library answers a case of a function that takes and answers no joint as the case says.
+// Whether the library answers a case of a function that takes no joint and answers no mark as the case says.
 fn leaf_agrees(f: u32, p: &[u8]) -> bool {
     match f / 16 {
         1 => scalar::agrees(f, p),
         2 => vector::agrees(f, p),
         3 => internal::agrees(f, p),
         4 => quat::agrees(f, p),
-        5 => matrix::agrees(f, p),
         6 => transform::agrees(f, p),
         7 => soft::agrees(f, p),
         _ => false,
@@ -50,12 +49,13 @@ fn leaf_agrees(f: u32, p: &[u8]) -> bool {
 // sixteen.
 fn agrees(f: u32, p: &[u8]) -> Agreement {
     match f / 16 {
+        5 => matrix::agrees(f, p),
         8 => stages::agrees(f, p),
         9 => direct_calls::agrees(f, p),
         10 => lists::agrees(f, p),
-        11 => without_angles(stop_codes::agrees(f, p)),
+        11 => nothing_apart(stop_codes::agrees(f, p)),
         12 => values::agrees(f, p),
-        _ => without_angles(leaf_agrees(f, p)),
+        _ => nothing_apart(leaf_agrees(f, p)),
     }
 }
 

@@ -1,16 +1,19 @@
 // What a number of cases came to. No run of the program makes a count wrap.
 use crate::agreement::Agreement;
+use crate::agreement::nothing_apart;
 use crate::agreement::one_unless;
-use crate::agreement::without_angles;
 use std::num::wrapping_add_u64;
 
 pub struct Counts {
-    // Cases, and those whose answer differs, the stored angles left aside.
+    // Cases, and those whose answer differs, the stored angles and the marks left aside.
     pub run: u64,
     pub differing: u64,
     // Stored angles that were compared, and those that differ.
     pub angles: u64,
     pub angles_differing: u64,
+    // Marks that were compared, and those that differ.
+    pub marks: u64,
+    pub marks_differing: u64,
 }
 
 pub fn no_cases() -> Counts {
@@ -19,6 +22,8 @@ pub fn no_cases() -> Counts {
         differing: 0,
         angles: 0,
         angles_differing: 0,
+        marks: 0,
+        marks_differing: 0,
     }
 }
 
@@ -27,13 +32,15 @@ pub fn one_more(c: Counts, a: Agreement) -> Counts {
         run: wrapping_add_u64(c.run, 1),
         differing: wrapping_add_u64(c.differing, one_unless(a.same)),
         angles: wrapping_add_u64(c.angles, a.angles),
-        angles_differing: wrapping_add_u64(c.angles_differing, a.differing),
+        angles_differing: wrapping_add_u64(c.angles_differing, a.angles_differing),
+        marks: wrapping_add_u64(c.marks, a.marks),
+        marks_differing: wrapping_add_u64(c.marks_differing, a.marks_differing),
     }
 }
 
 // One more case that could not be run, which counts as differing.
 pub fn one_not_run(c: Counts) -> Counts {
-    one_more(c, without_angles(false))
+    one_more(c, nothing_apart(false))
 }
 
 pub fn sum(c: Counts, d: Counts) -> Counts {
@@ -42,5 +49,7 @@ pub fn sum(c: Counts, d: Counts) -> Counts {
         differing: wrapping_add_u64(c.differing, d.differing),
         angles: wrapping_add_u64(c.angles, d.angles),
         angles_differing: wrapping_add_u64(c.angles_differing, d.angles_differing),
+        marks: wrapping_add_u64(c.marks, d.marks),
+        marks_differing: wrapping_add_u64(c.marks_differing, d.marks_differing),
     }
 }

@@ -1,11 +1,11 @@
 // The cases of direct calls on lent memory.
 //
 // The inputs are the joint after the number of its case, for a solve the context and the switch, then
-// how many states are lent, at most 40, and these. The answer is number, place, the joint and the
-// states. As in stages.rt, what was read is compared with the words that it was read from too.
+// how many states are lent, at most 40, and these. The answer is number, place, the joint, the states and
+// the marks. As in stages.rt, what was read is compared with the words that it was read from too.
 use crate::agreement::Agreement;
 use crate::agreement::if_also;
-use crate::agreement::without_angles;
+use crate::agreement::nothing_apart;
 use crate::compare::has_words;
 use crate::compare::is_switch;
 use crate::compare::same_word;
@@ -15,6 +15,8 @@ use crate::joint_words::same_joint;
 use crate::joint_words::words_of;
 use crate::lent_words::same_states;
 use crate::lent_words::states_of;
+use crate::mark_words::REPORT_WORDS;
+use crate::mark_words::with_report;
 use crate::record_words::CONTEXT_WORDS;
 use crate::record_words::context;
 use crate::record_words::same_context;
@@ -64,22 +66,21 @@ fn solve(
     lend_solve_weld_joint(joint, step, states, count, use_bias, 1)
 }
 
-// Whether the words after the states are the answer: number, place, the joint of the case, and the
-// states.
+// Whether the words after the states are the answer: number, place, the joint of the case, the states,
+// and the marks.
 fn same_outcome(case: u32, rest: &[u8], count: u32, lent: Lent) -> Agreement {
     let p = words_from(rest, words_of_states(count));
     let answer = lent.answer;
     let states = lent.states;
-    if_also(
+    let states_after = plus(2, words_of(case));
+    let same = if_also(
         same_word(p, 0, answer.number)
             & same_word(p, 1, answer.place)
-            & same_states(
-                words_from(p, plus(2, words_of(case))),
-                states,
-                count as usize,
-            ),
+            & same_states(words_from(p, states_after), states, count as usize),
         same_joint(case, words_from(p, 2), lent.joint),
-    )
+    );
+    let marks = plus(states_after, words_of_states(count));
+    with_report(same, p, marks, answer.report)
 }
 
 // Whether a case is as long as its parts: `before` words up to the states, and the answer.
@@ -88,7 +89,10 @@ fn is_whole(p: &[u8], before: usize, joint_words: usize, count: u32) -> bool {
     count <= 40
         && has_words(
             p,
-            plus(plus(before, plus(states, 2)), plus(joint_words, states)),
+            plus(
+                plus(before, plus(states, 2)),
+                plus(plus(joint_words, states), REPORT_WORDS),
+            ),
         )
 }
 
@@ -142,11 +146,11 @@ fn agrees_solve(kind: u32, p: &[u8]) -> Agreement {
 pub fn agrees(f: u32, p: &[u8]) -> Agreement {
     let kind = f % 4;
     if kind == 3 {
-        return without_angles(false);
+        return nothing_apart(false);
     }
     match f / 4 {
         0x24 => agrees_warm_start(kind, p),
         0x25 => agrees_solve(kind, p),
-        _ => without_angles(false),
+        _ => nothing_apart(false),
     }
 }

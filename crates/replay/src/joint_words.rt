@@ -85,10 +85,12 @@ pub fn with_angles(same: bool, p: &[u8], angles: LimitAngles) -> Agreement {
     Agreement {
         same,
         angles: 2,
-        differing: wrapping_add_u64(
+        angles_differing: wrapping_add_u64(
             one_unless(same_float(p, 0, angles.twist)),
             one_unless(same_float(p, 1, angles.swing)),
         ),
+        marks: 0,
+        marks_differing: 0,
     }
 }
 

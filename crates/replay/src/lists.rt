@@ -8,7 +8,7 @@ ghost use Prim.Native.Nat.{_≤_};
 use crate::agreement::Agreement;
 use crate::agreement::if_also;
 use crate::agreement::is_all;
-use crate::agreement::without_angles;
+use crate::agreement::nothing_apart;
 use crate::compare::has_words;
 use crate::compare::same_switch;
 use crate::compare::same_word;
@@ -134,7 +134,7 @@ pub fn agrees(f: u32, p: &[u8]) -> Agreement {
     let joints = word(p, 2) as usize;
     let states = word(p, 3) as usize;
     if f != 0xa0 || joints > 32 || states > 32 {
-        return without_angles(false);
+        return nothing_apart(false);
     }
     agrees_run(p, joints, states, word(p, 4) as usize)
 }

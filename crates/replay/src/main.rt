@@ -1,6 +1,7 @@
 // Runs the test cases of standard input, then those of each file that the arguments name, and prints
 // how many there are, and in how many of them the library's answer is not the recorded one, the stored
-// angles left aside; then how many stored angles were compared, and how many of them differ.
+// angles and the marks left aside; then how many stored angles were compared, and how many of them differ;
+// then the same of the marks.
 mod agreement;
 mod cases;
 mod compare;
@@ -10,6 +11,7 @@ mod internal;
 mod joint_words;
 mod lent_words;
 mod lists;
+mod mark_words;
 mod matrix;
 mod quat;
 mod record_words;
@@ -173,6 +175,7 @@ fn print_line(run: u64, differing: u64) {
 fn print_counts(c: Counts) {
     print_line(c.run, c.differing);
     print_line(c.angles, c.angles_differing);
+    print_line(c.marks, c.marks_differing);
 }
 
 fn main() {

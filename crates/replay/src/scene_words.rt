@@ -3,7 +3,7 @@
 ghost use Prim.Native.Nat.{_≤_};
 use crate::agreement::Agreement;
 use crate::agreement::both;
-use crate::agreement::without_angles;
+use crate::agreement::nothing_apart;
 use crate::joint_words::OTHER;
 use crate::joint_words::cased_joint;
 use crate::joint_words::cased_words;
@@ -111,7 +111,7 @@ fn same_state_place(is_given: bool, p: &[u8], state: BodyState) -> bool {
 
 // Whether the words are those of the first `count` joints, and the others are unused.
 pub fn same_joints(p: &[u8], joints: [JointSim; 32], count: usize) -> Agreement {
-    let mut all = without_angles(true);
+    let mut all = nothing_apart(true);
     let mut k = 0usize;
     while k < 32 {
         all = both(

@@ -4,13 +4,17 @@
 // nor 1, and of a type that there is not, differ from what is read.
 use crate::agreement::Agreement;
 use crate::agreement::if_also;
-use crate::agreement::without_angles;
+use crate::agreement::nothing_apart;
 use crate::compare::has_words;
 use crate::compare::is_switch;
 use crate::joint_words::indices;
 use crate::joint_words::is_joint;
 use crate::joint_words::same_joint;
 use crate::joint_words::words_of;
+use crate::mark_words::MARK_WORDS;
+use crate::mark_words::REPORT_WORDS;
+use crate::mark_words::with_mark;
+use crate::mark_words::with_report;
 use crate::record_words::BODY_WORDS;
 use crate::record_words::CONTEXT_WORDS;
 use crate::record_words::context;
@@ -36,13 +40,13 @@ use records::body::IDENTITY_BODY_STATE;
 use records::joint::JointSim;
 use solver::StepContext;
 
-// Where a case with states has its parts.
+// Where a case with states has its parts. The marks, of a solve, are the last.
 struct Parts {
     count: u32,
     states: usize,
     joint_after: usize,
     states_after: usize,
-    end: usize,
+    marks: usize,
 }
 
 // The parts of a case whose count of states is the word at i.
@@ -56,7 +60,7 @@ fn parts_of(kind: u32, p: &[u8], i: usize) -> Parts {
         states,
         joint_after,
         states_after,
-        end: plus(states_after, words_of_states(count)),
+        marks: plus(states_after, words_of_states(count)),
     }
 }
 
@@ -109,20 +113,25 @@ fn same_states(p: &[u8], parts: Parts, at: Indices, pair: StatePair) -> bool {
         && (count < 3 || same_state_of(p, parts, 2, at, pair))
 }
 
-// Whether a case has a count of states that is allowed, the words that go with it, and indices below
-// it.
-fn is_whole(p: &[u8], parts: Parts, at: Indices) -> bool {
+// Whether a case has a count of states that is allowed, the words that go with it and with the marks, and
+// indices below it.
+fn is_whole(p: &[u8], parts: Parts, mark_words: usize, at: Indices) -> bool {
     let count = parts.count as usize;
-    count <= 3 && has_words(p, parts.end) && !bad_index(count, at.a) && !bad_index(count, at.b)
+    count <= 3
+        && has_words(p, plus(parts.marks, mark_words))
+        && !bad_index(count, at.a)
+        && !bad_index(count, at.b)
 }
 
 // Whether the stage leaves what the answer has.
 fn is_prepare(kind: u32, p: &[u8], answer: &[u8]) -> Agreement {
     let r = prepare(kind, kind, p);
-    if_also(
+    let mark = r.mass_mark;
+    let same = if_also(
         (r.number == 0) & (r.place == 0),
         same_joint(kind, answer, r.joint),
-    )
+    );
+    with_mark(same, answer, words_of(kind), mark)
 }
 
 fn agrees_prepare(kind: u32, p: &[u8]) -> Agreement {
@@ -130,7 +139,9 @@ fn agrees_prepare(kind: u32, p: &[u8]) -> Agreement {
     let answer = words + CONTEXT_WORDS + 2 * BODY_WORDS;
     let step = words_from(p, words);
     if_also(
-        has_words(p, plus(answer, words)) & is_joint(kind, p) & same_context(step, context(step)),
+        has_words(p, plus(answer, words + MARK_WORDS))
+            & is_joint(kind, p)
+            & same_context(step, context(step)),
         is_prepare(kind, p, words_from(p, answer)),
     )
 }
@@ -164,7 +175,7 @@ fn agrees_warm_start(kind: u32, p: &[u8]) -> Agreement {
     let parts = parts_of(kind, p, words_of(kind));
     let at = indices(kind, p);
     if_also(
-        is_whole(p, parts, at) & is_joint(kind, p),
+        is_whole(p, parts, 0, at) & is_joint(kind, p),
         is_warm_start(kind, p, parts, at),
     )
 }
@@ -179,10 +190,11 @@ fn is_solve(
 ) -> Agreement {
     let pair = states_of(p, parts, at);
     let r = solve(kind, kind, p, step, use_bias, pair);
-    if_also(
+    let same = if_also(
         (r.number == 0) & (r.place == 0),
         same_left(kind, p, parts, at, pair, r.velocities, r.joint),
-    )
+    );
+    with_report(same, p, parts.marks, r.report)
 }
 
 fn agrees_solve(kind: u32, p: &[u8]) -> Agreement {
@@ -192,7 +204,7 @@ fn agrees_solve(kind: u32, p: &[u8]) -> Agreement {
     let parts = parts_of(kind, p, bias + 1);
     let at = indices(kind, p);
     if_also(
-        is_whole(p, parts, at)
+        is_whole(p, parts, REPORT_WORDS, at)
             & is_joint(kind, p)
             & same_context(words_from(p, words), step)
             & is_switch(p, bias),
@@ -204,12 +216,12 @@ fn agrees_solve(kind: u32, p: &[u8]) -> Agreement {
 pub fn agrees(f: u32, p: &[u8]) -> Agreement {
     let kind = f % 4;
     if kind == 3 {
-        return without_angles(false);
+        return nothing_apart(false);
     }
     match f / 4 {
         0x20 => agrees_prepare(kind, p),
         0x21 => agrees_warm_start(kind, p),
         0x22 => agrees_solve(kind, p),
-        _ => without_angles(false),
+        _ => nothing_apart(false),
     }
 }

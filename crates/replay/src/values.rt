@@ -2,11 +2,11 @@
 //
 // The inputs are the joint after the number of its case; for prepare the context and two bodies, for
 // a warm start two states, for a solve the context, the switch and two states. The answer is number,
-// place, the joint, and but for prepare the velocities. As in stages.rt, what was read is compared
-// with the words that it was read from too.
+// place, the joint, but for prepare the velocities, and but for a warm start the marks. As in stages.rt,
+// what was read is compared with the words that it was read from too.
 use crate::agreement::Agreement;
 use crate::agreement::if_also;
-use crate::agreement::without_angles;
+use crate::agreement::nothing_apart;
 use crate::compare::has_words;
 use crate::compare::is_switch;
 use crate::compare::same_vec3;
@@ -14,6 +14,10 @@ use crate::compare::same_word;
 use crate::joint_words::is_cased_joint;
 use crate::joint_words::same_joint;
 use crate::joint_words::words_of;
+use crate::mark_words::MARK_WORDS;
+use crate::mark_words::REPORT_WORDS;
+use crate::mark_words::with_mark;
+use crate::mark_words::with_report;
 use crate::record_words::BODY_WORDS;
 use crate::record_words::CONTEXT_WORDS;
 use crate::record_words::STATE_WORDS;
@@ -57,10 +61,12 @@ fn pair_at(p: &[u8]) -> StatePair {
 // of the answer follow.
 fn is_prepare(kind: u32, case: u32, p: &[u8], answer: &[u8]) -> Agreement {
     let r = prepare(kind, case, p);
-    if_also(
+    let mark = r.mass_mark;
+    let same = if_also(
         same_numbers(answer, r.number, r.place),
         same_joint(case, words_from(answer, 2), r.joint),
-    )
+    );
+    with_mark(same, answer, plus(2, words_of(case)), mark)
 }
 
 fn is_warm_start(kind: u32, case: u32, p: &[u8], states: &[u8], answer: &[u8]) -> Agreement {
@@ -82,11 +88,13 @@ fn is_solve(
     answer: &[u8],
 ) -> Agreement {
     let r = solve(kind, case, p, step, use_bias, pair_at(states));
-    if_also(
+    let velocities = plus(2, words_of(case));
+    let same = if_also(
         same_numbers(answer, r.number, r.place)
-            & same_velocities(words_from(answer, plus(2, words_of(case))), r.velocities),
+            & same_velocities(words_from(answer, velocities), r.velocities),
         same_joint(case, words_from(answer, 2), r.joint),
-    )
+    );
+    with_report(same, answer, plus(velocities, VELOCITY_WORDS), r.report)
 }
 
 fn agrees_prepare(kind: u32, case: u32, p: &[u8]) -> Agreement {
@@ -94,7 +102,7 @@ fn agrees_prepare(kind: u32, case: u32, p: &[u8]) -> Agreement {
     let step = words_from(p, plus(1, words));
     let answer = 1 + words + CONTEXT_WORDS + 2 * BODY_WORDS;
     if_also(
-        has_words(p, plus(answer, 2 + words))
+        has_words(p, plus(answer, 2 + words + MARK_WORDS))
             & is_cased_joint(p)
             & same_context(step, context(step)),
         is_prepare(kind, case, words_from(p, 1), words_from(p, answer)),
@@ -123,7 +131,7 @@ fn agrees_solve(kind: u32, case: u32, p: &[u8]) -> Agreement {
     let bias = 1 + words + CONTEXT_WORDS;
     let answer = bias + 1 + 2 * STATE_WORDS;
     if_also(
-        has_words(p, plus(answer, 2 + words + VELOCITY_WORDS))
+        has_words(p, plus(answer, 2 + words + VELOCITY_WORDS + REPORT_WORDS))
             & is_cased_joint(p)
             & same_context(words_from(p, plus(1, words)), step)
             & is_switch(p, bias),
@@ -144,12 +152,12 @@ pub fn agrees(f: u32, p: &[u8]) -> Agreement {
     let kind = f % 4;
     let case = word(p, 0);
     if kind == 3 {
-        return without_angles(false);
+        return nothing_apart(false);
     }
     match f / 4 {
         0x30 => agrees_prepare(kind, case, p),
         0x31 => agrees_warm_start(kind, case, p),
         0x32 => agrees_solve(kind, case, p),
-        _ => without_angles(false),
+        _ => nothing_apart(false),
     }
 }

@@ -96,7 +96,7 @@ module _ (base : JointBase) (j : RevoluteJoint) (stateA stateB : BodyState) wher
   pub solve-indices : (h invH : Float) (useBias : Bool) (x y : ℤ) →
       let r = solveRevolute base j h invH stateA stateB useBias in
       solveRevolute base (withIndices j x y) h invH stateA stateB useBias
-      ≡ revoluteSolved (withIndices (r .joint) x y) (r .angles) (r .velocities)
+      ≡ revoluteSolved (withIndices (r .joint) x y) (r .angles) (r .velocities) (r .report)
   unfolding solveRevolute jointRotation solveSpring solveMotor solveLimits solvePerp solvePoint
   solve-indices h invH useBias x y = refl
 

@@ -6,6 +6,7 @@ use Rattle.math_functions.specs.declared.types.Vec2.{Vec2}
 use Rattle.math_functions.specs.declared.types.Vec3.{Vec3}
 use Rattle.math_functions.specs.declared.types.Quat.{Quat}
 use Rattle.math_functions.specs.declared.types.Matrix3.{Matrix3}
+use Rattle.math_functions.specs.declared.mark.Mark.{Mark}
 use Rattle.math_functions.specs.declared.matrix.Mat2.{Mat2}
 use Rattle.math_functions.specs.Float.{_⊕_, _⊖_, _⊗_, neg, lit, zero}
 use Rattle.math_functions.specs.Types.{vec2, mat2, vec2Zero, vec3Zero, vec3AxisX, vec3AxisY, vec3AxisZ}
@@ -13,7 +14,8 @@ use Rattle.math_functions.specs.Scalar.{clampFloat}
 use Rattle.math_functions.specs.Vector.{add, sub, dot, mulAdd, mulSv, cross}
 use Rattle.math_functions.specs.Internal.{add2, sub2, mulSv2}
 use Rattle.math_functions.specs.Quat.{rotateVector, invMulQuat, getTwistAngle}
-use Rattle.math_functions.specs.Matrix.{addMm, mulMv, solve2, solve3}
+use Rattle.math_functions.specs.Mark.{noMark}
+use Rattle.math_functions.specs.Matrix.{addMm, mulMv, solve2, solve2Mark, solve3, solve3Mark}
 use Rattle.math_functions.specs.Transform.{subPos}
 use Rattle.solver.specs.declared.Softness.{Softness}
 use Rattle.solver.specs.declared.StepContext.{StepContext}
@@ -32,18 +34,19 @@ use Rattle.constraint.specs.declared.velocity.InvMasses.{InvMasses}
 use Rattle.constraint.specs.declared.rotation.RelativeRotation.{RelativeRotation}
 use Rattle.constraint.specs.declared.soft.SoftBias2.{SoftBias2}
 use Rattle.constraint.specs.declared.angular.AxialRow.{AxialRow}
-use Rattle.constraint.specs.declared.angular.Row3.{Row3}
 use Rattle.constraint.specs.declared.angular.LimitRows.{LimitRows}
+use Rattle.constraint.specs.declared.point.PointRow.{PointRow}
+use Rattle.constraint.specs.declared.answer.Report.{Report}
 use Rattle.constraint.specs.declared.answer.Prepared.{Prepared}
 use Rattle.constraint.specs.declared.answer.WarmStarted.{WarmStarted}
 use Rattle.constraint.specs.declared.answer.Solved.{Solved}
 use Rattle.constraint.specs.Velocity.{velocitiesOf, invMassesOf, applyAxial, applyAngular, applyPoint, applyWarm}
 use Rattle.constraint.specs.Soft.{softBias, softBias2, softImpulse, softImpulse3Products, rigid2}
 use Rattle.constraint.specs.Rotation.{flippedRelativeRotation}
-use Rattle.constraint.specs.Angular.{axialRow, row3, isWorked, twistAngleIf, TwistLimit, twistLimitRows}
-use Rattle.constraint.specs.Point.{pointBias, pointMass, pointCdot}
+use Rattle.constraint.specs.Angular.{axialRow, isWorked, twistAngleIf, TwistLimit, twistLimitRows}
+use Rattle.constraint.specs.Point.{pointResult, pointBias, pointMass, pointCdot}
 use Rattle.constraint.specs.Prepare.{prepareBase, prepareFrame, awakeIndex, axialMass}
-use Rattle.constraint.specs.Answer.{prepared, notPrepared, warmStarted, notWarmStarted, solved, notSolved}
+use Rattle.constraint.specs.Answer.{prepared, notPrepared, warmStarted, notWarmStarted, report, solved, notSolved}
 use Rattle.revolute.specs.declared.prepare.RevolutePrepared.{RevolutePrepared}
 use Rattle.revolute.specs.declared.rows.PerpRow.{PerpRow}
 use Rattle.revolute.specs.declared.solve.RevoluteSolved.{RevoluteSolved}
@@ -177,10 +180,11 @@ perpMass invInertiaSum axisX axisY =
 unfoldable pub softImpulse2Products : SoftBias2 → Vec2 → Vec2 → Vec2
 softImpulse2Products s b oldImpulse = sub2 (mulSv2 (neg (s .«mass_scale»)) b) (mulSv2 (s .«impulse_scale») oldImpulse)
 
-abbrev pub perpResult : Vec2 → Vec3 → Vec3 → Velocities → PerpRow
-perpResult impulse axisX axisY velocities = record { «perp_impulse» = impulse; «perp_axis_x» = axisX; «perp_axis_y» = axisY; velocities = velocities }
+abbrev pub perpResult : Vec2 → Vec3 → Vec3 → Velocities → Mark → PerpRow
+perpResult impulse axisX axisY velocities mark =
+    record { «perp_impulse» = impulse; «perp_axis_x» = axisX; «perp_axis_y» = axisY; velocities = velocities; mark = mark }
 
--- the 2-by-2 solve, once the two axes are known
+-- the 2-by-2 solve, once the two axes are known, and its mark
 unfoldable pub collinearRow : SoftBias2 → Vec3 → Vec3 → Vec2 → InvMasses → Velocities → PerpRow
 collinearRow s axisX axisY oldImpulse m v =
     let k = perpMass (addMm (m .«i_a») (m .«i_b»)) axisX axisY in
@@ -189,23 +193,25 @@ collinearRow s axisX axisY oldImpulse m v =
     let sol = solve2 k (add2 cdot (s .bias)) in
     let deltaImpulse = softImpulse2Products s sol oldImpulse in
     perpResult (add2 oldImpulse deltaImpulse) axisX axisY (applyAngular m (perpAngularImpulse deltaImpulse axisX axisY) v)
+    (solve2Mark k)
 
--- document 01's two perpendicular axes: no switch, and new axes for the warm start
+-- document 01's two perpendicular axes: no switch, and new axes for the warm start. C-15: 'a row not worked' has no mark
 unfoldable pub perpRow : Bool → RelativeRotation → Softness → Bool → Vec3 → Vec3 → Vec2 → InvMasses → Velocities → PerpRow
 perpRow worked rotation softness useBias oldAxisX oldAxisY oldImpulse m v =
     let s = perpBias useBias softness (rotation .«rel_q») in
     let axisX = perpAxis (rotation .«quat_a») (rotation .«rel_q») vec3AxisX in
     let axisY = perpAxis (rotation .«quat_a») (rotation .«rel_q») vec3AxisY in
-    cond (not worked) (perpResult oldImpulse oldAxisX oldAxisY v) (collinearRow s axisX axisY oldImpulse m v)
+    cond (not worked) (perpResult oldImpulse oldAxisX oldAxisY v noMark) (collinearRow s axisX axisY oldImpulse m v)
 
 -- document 01's point row, never skipped. Soft only where the call has bias; two products are subtracted
-unfoldable pub pointRow : Bool → Softness → Vec3 → Vec3 → Vec3 → Vec3 → Vec3 → Vec3 → InvMasses → Velocities → Row3
+unfoldable pub pointRow : Bool → Softness → Vec3 → Vec3 → Vec3 → Vec3 → Vec3 → Vec3 → InvMasses → Velocities → PointRow
 pointRow useBias softness rA rB dcA dcB deltaCenter oldImpulse m v =
     let cdot = pointCdot rA rB v in
     let s = pointBias useBias softness rA rB dcA dcB deltaCenter in
-    let b = solve3 (pointMass m rA rB) (add cdot (s .bias)) in
+    let k = pointMass m rA rB in
+    let b = solve3 k (add cdot (s .bias)) in
     let impulse = softImpulse3Products s b oldImpulse in
-    row3 (add oldImpulse impulse) (applyPoint m rA rB impulse v)
+    pointResult (add oldImpulse impulse) (applyPoint m rA rB impulse v) (solve3Mark k)
 
 -- ==== Solve
 
@@ -246,17 +252,17 @@ unfoldable pub solvePerp : Bool → Softness → RevoluteJoint → RelativeRotat
 solvePerp fixedRotation softness j rotation useBias m v =
     perpRow (not fixedRotation) rotation softness useBias (j .«perp_axis_x») (j .«perp_axis_y») (j .«perp_impulse») m v
 
-unfoldable pub solvePoint : Softness → RevoluteJoint → BodyState → BodyState → Bool → InvMasses → Velocities → Row3
+unfoldable pub solvePoint : Softness → RevoluteJoint → BodyState → BodyState → Bool → InvMasses → Velocities → PointRow
 solvePoint softness j stateA stateB useBias m v =
     let rA = rotateVector (stateA .«delta_rotation») (j .«frame_a» .p) in
     let rB = rotateVector (stateB .«delta_rotation») (j .«frame_b» .p) in
     pointRow useBias softness rA rB (stateA .«delta_position») (stateB .«delta_position») (j .«delta_center») (j .«linear_impulse») m v
 
-abbrev pub revoluteSolved : RevoluteJoint → LimitAngles → Velocities → RevoluteSolved
-revoluteSolved joint angles velocities = record { joint = joint; angles = angles; velocities = velocities }
+abbrev pub revoluteSolved : RevoluteJoint → LimitAngles → Velocities → Report → RevoluteSolved
+revoluteSolved joint angles velocities r = record { joint = joint; angles = angles; velocities = velocities; report = r }
 
 -- document 01's rows of a solve, in order: spring, motor, lower, upper, two perpendicular axes, point. C-11: the angle of the limit's rows is stored as the
--- twist, and NaN as the swing: there is no cone
+-- twist, and NaN as the swing: there is no cone. C-15: the marks of the perpendicular and the point row are passed on
 unfoldable pub solveRevolute : JointBase → RevoluteJoint → Float → Float → BodyState → BodyState → Bool → RevoluteSolved
 solveRevolute base j h invH stateA stateB useBias =
     let m = invMassesOf base in
@@ -274,18 +280,19 @@ solveRevolute base j h invH stateA stateB useBias =
     (perp .«perp_axis_x») (perp .«perp_axis_y»))
     (limitAngles angle nan)
     (point .velocities)
+    (report (perp .mark) (point .mark))
 
 -- ==== The stages over a joint of any kind
 
 -- A joint whose case is not Revolute gets number 1, place 0, and nothing is altered.
 
--- of the context h and enable_warm_starting. C-11: 'prepare stores NaN in both'
+-- of the context h and enable_warm_starting. C-11: 'prepare stores NaN in both'. C-15: no mass is inverted
 unfoldable pub prepareRevoluteJoint : JointSim → StepContext → BodyRecord → BodyRecord → Prepared
 prepareRevoluteJoint sim context bodyA bodyB =
     Option·elim (asRevolute (sim .«union_»)) (notPrepared sim) λ j.
     let deltaCenter = subPos (bodyB .center) (bodyA .center) in
     let r = prepareRevolute (sim .base) j (context .h) (context .«enable_warm_starting») deltaCenter bodyA bodyB in
-    prepared (jointSim (r .base) (Revolute (r .joint)) noAngles)
+    prepared (jointSim (r .base) (Revolute (r .joint)) noAngles) noMark
 
 unfoldable pub warmStartRevoluteJoint : JointSim → BodyState → BodyState → WarmStarted
 warmStartRevoluteJoint sim stateA stateB =
@@ -296,4 +303,4 @@ unfoldable pub solveRevoluteJoint : JointSim → StepContext → BodyState → B
 solveRevoluteJoint sim context stateA stateB useBias =
     Option·elim (asRevolute (sim .«union_»)) (notSolved sim stateA stateB) λ j.
     let r = solveRevolute (sim .base) j (context .h) (context .«inv_h») stateA stateB useBias in
-    solved (afterSolve sim (Revolute (r .joint)) (r .angles)) (r .velocities)
+    solved (afterSolve sim (Revolute (r .joint)) (r .angles)) (r .velocities) (r .report)

@@ -8,6 +8,7 @@ ghost use Rattle.revolute.specs.Revolute as D;
 use crate::prepare::prepare_revolute;
 use crate::solve::solve_revolute;
 use crate::warm_start::warm_start_revolute;
+use constraint::answer::NO_REPORT;
 use constraint::answer::Prepared;
 use constraint::answer::Solved;
 use constraint::answer::WRONG_KIND;
@@ -15,6 +16,7 @@ use constraint::answer::WarmStarted;
 use constraint::answer::warm_start_done;
 use constraint::answer::warm_start_refused;
 use constraint::velocity::velocities_of;
+use math_functions::mark::Mark;
 use math_functions::transform::sub_pos;
 use records::body::BodyRecord;
 use records::body::BodyState;
@@ -57,6 +59,7 @@ pub fn prepare_revolute_joint(
             number: WRONG_KIND,
             place: 0,
             joint,
+            mass_mark: Mark::None,
         };
     };
     let delta_center = sub_pos(body_b.center, body_a.center);
@@ -74,6 +77,7 @@ pub fn prepare_revolute_joint(
         number: 0,
         place: 0,
         joint,
+        mass_mark: Mark::None,
     }
 }
 
@@ -110,6 +114,7 @@ pub fn solve_revolute_joint(
             place: 0,
             joint,
             velocities: velocities_of(state_a, state_b),
+            report: NO_REPORT,
         };
     };
     let s = solve_revolute(
@@ -122,11 +127,13 @@ pub fn solve_revolute_joint(
         use_bias,
     );
     let velocities = s.velocities;
+    let report = s.report;
     joint = revolute_sim(joint.base, s.joint, s.angles);
     Solved {
         number: 0,
         place: 0,
         joint,
         velocities,
+        report,
     }
 }

@@ -5,7 +5,7 @@ ghost use Rattle.revolute.specs.Revolute as D;
 use crate::prepare::perp_axis;
 use crate::warm_start::perp_angular_impulse;
 use constraint::angular::AxialRow;
-use constraint::angular::Row3;
+use constraint::point::PointRow;
 use constraint::point::add_mass;
 use constraint::point::point_bias;
 use constraint::point::point_cdot;
@@ -24,6 +24,7 @@ use constraint::velocity::apply_point;
 use math_functions::internal::add2;
 use math_functions::internal::mul_sv2;
 use math_functions::internal::sub2;
+use math_functions::mark::Mark;
 use math_functions::matrix::Mat2;
 use math_functions::matrix::add_mm;
 use math_functions::matrix::mul_mm;
@@ -46,12 +47,13 @@ use math_functions::vector::sub;
 use solver::Softness;
 
 // What the perpendicular row leaves: its impulse, the two axes that a warm start applies it about,
-// and the velocities.
+// the velocities, and the mark of its matrix.
 pub struct PerpRow {
     pub perp_impulse: Vec2,
     pub perp_axis_x: Vec3,
     pub perp_axis_y: Vec3,
     pub velocities: Velocities,
+    pub mark: Mark,
 }
 
 // The spring pulls the twist angle to the target angle.
@@ -182,15 +184,17 @@ fn collinear_row(
         y: dot(w_rel, axis_y),
     };
     let sol = solve2(k, add2(cdot, s.bias));
-    let delta_impulse = soft_impulse2_products(s, sol, old_impulse);
+    let delta_impulse = soft_impulse2_products(s, sol.value, old_impulse);
     let perp_impulse = add2(old_impulse, delta_impulse);
     let angular_impulse = perp_angular_impulse(delta_impulse, axis_x, axis_y);
     let velocities = apply_angular(m, angular_impulse, v);
+    let mark = sol.mark;
     PerpRow {
         perp_impulse,
         perp_axis_x: axis_x,
         perp_axis_y: axis_y,
         velocities,
+        mark,
     }
 }
 
@@ -214,6 +218,7 @@ pub fn perp_row(
             perp_axis_x: old_axis_x,
             perp_axis_y: old_axis_y,
             velocities: v,
+            mark: Mark::None,
         };
     }
     let s = perp_bias(use_bias, softness, rotation.rel_q);
@@ -234,7 +239,7 @@ pub fn point_row(
     old_impulse: Vec3,
     m: InvMasses,
     v: Velocities,
-) -> Row3
+) -> PointRow
     ensures { λ r. ⌜ r ≡ D.pointRow «use_bias» softness «r_a» «r_b» «dc_a» «dc_b» «delta_center» «old_impulse» m v ⌝ }
 {
     let cdot = point_cdot(r_a, r_b, v);
@@ -245,11 +250,13 @@ pub fn point_row(
     let k_b = mul_mm(s_b, mul_mm(m.i_b, s_b));
     let k = add_mass(negate_mat3(add_mm(k_a, k_b)), m.m_a + m.m_b);
     let b = solve3(k, add(cdot, s.bias));
-    let delta_impulse = soft_impulse3_products(s, b, old_impulse);
+    let delta_impulse = soft_impulse3_products(s, b.value, old_impulse);
     let impulse = add(old_impulse, delta_impulse);
     let velocities = apply_point(m, r_a, r_b, delta_impulse, v);
-    Row3 {
+    let mark = b.mark;
+    PointRow {
         impulse,
         velocities,
+        mark,
     }
 }

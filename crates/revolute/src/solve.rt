@@ -8,12 +8,13 @@ use crate::rows::point_row;
 use crate::rows::spring_row;
 use constraint::angular::AxialRow;
 use constraint::angular::LimitRows;
-use constraint::angular::Row3;
 use constraint::angular::is_worked;
 use constraint::angular::limit_rows;
 use constraint::angular::lower_limit_sum;
 use constraint::angular::twist_angle_if;
 use constraint::angular::upper_limit_row;
+use constraint::answer::Report;
+use constraint::point::PointRow;
 use constraint::rotation::RelativeRotation;
 use constraint::rotation::same_polarity;
 use constraint::soft::limit_bias;
@@ -40,6 +41,7 @@ pub struct RevoluteSolved {
     pub joint: RevoluteJoint,
     pub angles: LimitAngles,
     pub velocities: Velocities,
+    pub report: Report,
 }
 
 // Where frame B stands relative to frame A.
@@ -171,7 +173,7 @@ fn solve_point(
     use_bias: bool,
     m: InvMasses,
     v: Velocities,
-) -> Row3
+) -> PointRow
     ensures { λ r. ⌜ r ≡ D.solvePoint softness joint «state_a» «state_b» «use_bias» m v ⌝ }
 {
     let r_a = rotate_vector(state_a.delta_rotation, joint.frame_a.p);
@@ -256,9 +258,16 @@ pub fn solve_revolute(
         swing: nan(),
     };
     let velocities = point.velocities;
+    let perp_mark = perp.mark;
+    let point_mark = point.mark;
+    let report = Report {
+        perp_mark,
+        point_mark,
+    };
     RevoluteSolved {
         joint,
         angles,
         velocities,
+        report,
     }
 }

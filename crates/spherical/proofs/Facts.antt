@@ -125,7 +125,7 @@ module _ (fixedRotation : Bool) (s : Softness) (j : SphericalJoint) (relQ : Quat
 pub solve-indices : (base : JointBase) (j : SphericalJoint) (h invH : Float) (stateA stateB : BodyState) (useBias : Bool) (indexA indexB : ℤ) →
     let next = solveSpherical base j h invH stateA stateB useBias in
     solveSpherical base (withIndices j indexA indexB) h invH stateA stateB useBias
-    ≡ sphericalSolved (withIndices (next .joint) indexA indexB) (next .angles) (next .velocities)
+    ≡ sphericalSolved (withIndices (next .joint) indexA indexB) (next .angles) (next .velocities) (next .report)
 unfolding solveSpherical jointRotation solveSpring solveMotor solveLimits solveCone solveBias solvePoint
 solve-indices base j h invH stateA stateB useBias indexA indexB = refl
 

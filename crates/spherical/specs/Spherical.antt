@@ -6,11 +6,13 @@ use Rattle.sqrt.specs.Sqrt.{sqrt}
 use Rattle.math_functions.specs.declared.types.Vec3.{Vec3}
 use Rattle.math_functions.specs.declared.types.Quat.{Quat}
 use Rattle.math_functions.specs.declared.types.Matrix3.{Matrix3}
+use Rattle.math_functions.specs.declared.mark.Mark.{Mark}
 use Rattle.math_functions.specs.Float.{_⊕_, _⊖_, _⊗_, _⊘_, gt, zero}
 use Rattle.math_functions.specs.Types.{vec3Zero, vec3AxisZ, mat3Zero}
 use Rattle.math_functions.specs.Vector.{add, sub, neg, length, normalize, mulAdd, mulSub, mulSv, cross}
 use Rattle.math_functions.specs.Quat.{rotateVector, invMulQuat, deltaQuatToRotation}
-use Rattle.math_functions.specs.Matrix.{addMm, mulMv, invertMatrix, solve3}
+use Rattle.math_functions.specs.Mark.{noMark}
+use Rattle.math_functions.specs.Matrix.{addMm, mulMv, invertMatrix, invertMatrixMark, solve3, solve3Mark}
 use Rattle.math_functions.specs.Transform.{subPos}
 use Rattle.solver.specs.declared.Softness.{Softness}
 use Rattle.solver.specs.declared.StepContext.{StepContext}
@@ -31,6 +33,8 @@ use Rattle.constraint.specs.declared.soft.SoftBias3.{SoftBias3}
 use Rattle.constraint.specs.declared.angular.AxialRow.{AxialRow}
 use Rattle.constraint.specs.declared.angular.LimitRows.{LimitRows}
 use Rattle.constraint.specs.declared.angular.Row3.{Row3}
+use Rattle.constraint.specs.declared.point.PointRow.{PointRow}
+use Rattle.constraint.specs.declared.answer.Report.{Report}
 use Rattle.constraint.specs.declared.answer.Prepared.{Prepared}
 use Rattle.constraint.specs.declared.answer.WarmStarted.{WarmStarted}
 use Rattle.constraint.specs.declared.answer.Solved.{Solved}
@@ -38,9 +42,9 @@ use Rattle.constraint.specs.Velocity.{velocitiesOf, invMassesOf, applyAngular, 
 use Rattle.constraint.specs.Soft.{softBias3, limitBias, softImpulse3}
 use Rattle.constraint.specs.Rotation.{relativeRotation}
 use Rattle.constraint.specs.Angular.{axialRow, row3, isWorked, twistAngleIf, swingAngleIf, upperLimitRow, angularRow, TwistLimit, twistLimitRows}
-use Rattle.constraint.specs.Point.{pointBias, pointMass, pointCdot}
+use Rattle.constraint.specs.Point.{pointResult, pointBias, pointMass, pointCdot}
 use Rattle.constraint.specs.Prepare.{prepareBase, awakeIndex, prepareFrame, axialMass}
-use Rattle.constraint.specs.Answer.{prepared, notPrepared, warmStarted, notWarmStarted, solved, notSolved}
+use Rattle.constraint.specs.Answer.{prepared, notPrepared, warmStarted, notWarmStarted, report, solved, notSolved}
 use Rattle.spherical.specs.declared.prepare.LimitAxis.{LimitAxis}
 use Rattle.spherical.specs.declared.prepare.SphericalPrepared.{SphericalPrepared}
 use Rattle.spherical.specs.declared.solve.SphericalSolved.{SphericalSolved}
@@ -90,12 +94,16 @@ prepareTwist j invInertiaSum quatA quatB coneAxis twistAxis =
 unfoldable pub prepareRotationMass : Bool → Matrix3 → Matrix3
 prepareRotationMass fixedRotation invInertiaSum = cond (not fixedRotation) (invertMatrix invInertiaSum) mat3Zero
 
+-- C-15: the rotation mass's mark: 'a mass not inverted' has none
+unfoldable pub rotationMassMark : Bool → Matrix3 → Mark
+rotationMassMark fixedRotation invInertiaSum = cond (not fixedRotation) (invertMatrixMark invInertiaSum) noMark
+
 -- document 01's prepare: impulses are cleared only if warm starting is off
 unfoldable pub keepImpulses : SphericalJoint → Bool → SphericalJoint
 keepImpulses j enableWarmStarting = cond (not enableWarmStarting) (withImpulses j vec3Zero vec3Zero vec3Zero zero zero zero) j
 
-abbrev pub sphericalPrepared : JointBase → SphericalJoint → SphericalPrepared
-sphericalPrepared base joint = record { base = base; joint = joint }
+abbrev pub sphericalPrepared : JointBase → SphericalJoint → Mark → SphericalPrepared
+sphericalPrepared base joint massMark = record { base = base; joint = joint; «mass_mark» = massMark }
 
 -- document 01's prepare, where deltaCenter is the difference of the centres. The cone axis is the z-axis of frame A, the twist axis that of frame B
 unfoldable pub prepareSpherical : JointBase → SphericalJoint → Float → Bool → Vec3 → BodyRecord → BodyRecord → SphericalPrepared
@@ -121,7 +129,7 @@ prepareSpherical base j h enableWarmStarting deltaCenter bodyA bodyB =
       «spring_softness» = makeSoft (j .hertz) (j .«damping_ratio») h;
     } in
     let out = built (writtenOf j) (settingsOf j) (awakeIndex bodyA) (awakeIndex bodyB) made in
-    sphericalPrepared next (keepImpulses out enableWarmStarting)
+    sphericalPrepared next (keepImpulses out enableWarmStarting) (rotationMassMark (next .«fixed_rotation») invInertiaSum)
 
 -- ==== Warm start
 
@@ -171,12 +179,13 @@ coneRow worked swingAngle coneAngle s invH useBias swingMass swingAxis oldImpuls
     cond (not worked) (axialRow oldImpulse v) (upperLimitRow (limitBias c s invH useBias) swingMass swingAxis oldImpulse m v)
 
 -- Point, with its bias (`pointBias`: softened where the call has bias); worked with fixed rotation too.
-unfoldable pub pointRow : SoftBias3 → Vec3 → Vec3 → Vec3 → InvMasses → Velocities → Row3
+unfoldable pub pointRow : SoftBias3 → Vec3 → Vec3 → Vec3 → InvMasses → Velocities → PointRow
 pointRow s rA rB oldImpulse m v =
     let cdot = pointCdot rA rB v in
-    let b = solve3 (pointMass m rA rB) (add cdot (s .bias)) in
+    let k = pointMass m rA rB in
+    let b = solve3 k (add cdot (s .bias)) in
     let impulse = softImpulse3 s b oldImpulse in
-    row3 (add oldImpulse impulse) (applyPoint m rA rB impulse v)
+    pointResult (add oldImpulse impulse) (applyPoint m rA rB impulse v) (solve3Mark k)
 
 -- ==== Solve
 
@@ -222,17 +231,17 @@ unfoldable pub solveBias : Softness → SphericalJoint → Vec3 → Vec3 → Bod
 solveBias softness j rA rB stateA stateB useBias =
     pointBias useBias softness rA rB (stateA .«delta_position») (stateB .«delta_position») (j .«delta_center»)
 
-unfoldable pub solvePoint : Softness → SphericalJoint → BodyState → BodyState → Bool → InvMasses → Velocities → Row3
+unfoldable pub solvePoint : Softness → SphericalJoint → BodyState → BodyState → Bool → InvMasses → Velocities → PointRow
 solvePoint softness j stateA stateB useBias m v =
     let rA = rotateVector (stateA .«delta_rotation») (j .«frame_a» .p) in
     let rB = rotateVector (stateB .«delta_rotation») (j .«frame_b» .p) in
     pointRow (solveBias softness j rA rB stateA stateB useBias) rA rB (j .«linear_impulse») m v
 
-abbrev pub sphericalSolved : SphericalJoint → LimitAngles → Velocities → SphericalSolved
-sphericalSolved joint angles velocities = record { joint = joint; angles = angles; velocities = velocities }
+abbrev pub sphericalSolved : SphericalJoint → LimitAngles → Velocities → Report → SphericalSolved
+sphericalSolved joint angles velocities r = record { joint = joint; angles = angles; velocities = velocities; report = r }
 
 -- document 01's rows of a spherical solve, in order: spring, motor, lower and upper twist, cone, point. C-11: the angles of the twist limit's rows and of the
--- cone's are stored
+-- cone's are stored. C-15: the mark of the point row is passed on; there is no perpendicular row
 unfoldable pub solveSpherical : JointBase → SphericalJoint → Float → Float → BodyState → BodyState → Bool → SphericalSolved
 solveSpherical base j h invH stateA stateB useBias =
     let m = invMassesOf base in
@@ -251,18 +260,19 @@ solveSpherical base j h invH stateA stateB useBias =
     (withImpulses j (point .impulse) (spring .impulse) (motor .impulse) (limits .«lower_impulse») (limits .«upper_impulse») (cone .impulse))
     (limitAngles twist swing)
     (point .velocities)
+    (report noMark (point .mark))
 
 -- ==== The stages over a joint of any kind
 
 -- A joint whose case is not Spherical gets number 1, place 0, and nothing is altered.
 
--- of the context h and enable_warm_starting. C-11: 'prepare stores NaN in both'
+-- of the context h and enable_warm_starting. C-11: 'prepare stores NaN in both'. C-15: the rotation mass's mark is passed on
 unfoldable pub prepareSphericalJoint : JointSim → StepContext → BodyRecord → BodyRecord → Prepared
 prepareSphericalJoint sim context bodyA bodyB =
     Option·elim (asSpherical (sim .«union_»)) (notPrepared sim) λ j.
     let deltaCenter = subPos (bodyB .center) (bodyA .center) in
     let r = prepareSpherical (sim .base) j (context .h) (context .«enable_warm_starting») deltaCenter bodyA bodyB in
-    prepared (jointSim (r .base) (Spherical (r .joint)) noAngles)
+    prepared (jointSim (r .base) (Spherical (r .joint)) noAngles) (r .«mass_mark»)
 
 unfoldable pub warmStartSphericalJoint : JointSim → BodyState → BodyState → WarmStarted
 warmStartSphericalJoint sim stateA stateB =
@@ -273,4 +283,4 @@ unfoldable pub solveSphericalJoint : JointSim → StepContext → BodyState → 
 solveSphericalJoint sim context stateA stateB useBias =
     Option·elim (asSpherical (sim .«union_»)) (notSolved sim stateA stateB) λ j.
     let r = solveSpherical (sim .base) j (context .h) (context .«inv_h») stateA stateB useBias in
-    solved (afterSolve sim (Spherical (r .joint)) (r .angles)) (r .velocities)
+    solved (afterSolve sim (Spherical (r .joint)) (r .angles)) (r .velocities) (r .report)

@@ -1,10 +1,13 @@
 // The prepare of a spherical joint.
 ghost use mathlib.Core.Path.{_≡_};
+ghost use Rattle.math_functions.specs.Matrix.{markedMatrix3};
 ghost use Rattle.spherical.specs.Spherical as D;
 use constraint::prepare::awake_index;
 use constraint::prepare::axial_mass;
 use constraint::prepare::prepare_base;
 use constraint::prepare::prepare_frame;
+use math_functions::mark::Mark;
+use math_functions::matrix::MarkedMatrix3;
 use math_functions::matrix::add_mm;
 use math_functions::matrix::invert_matrix;
 use math_functions::quat::inv_mul_quat;
@@ -28,6 +31,7 @@ use sqrt::sqrt;
 pub struct SphericalPrepared {
     pub base: JointBase,
     pub joint: SphericalJoint,
+    pub mass_mark: Mark,
 }
 
 // The axis of a limit, and the effective mass about it.
@@ -94,13 +98,18 @@ fn prepare_twist(
     LimitAxis { axis, mass }
 }
 
-fn prepare_rotation_mass(fixed_rotation: bool, inv_inertia_sum: Matrix3) -> Matrix3
-    ensures { λ r. ⌜ r ≡ D.prepareRotationMass «fixed_rotation» «inv_inertia_sum» ⌝ }
+// The rotation mass and its mark: it is not inverted where rotation is fixed.
+fn prepare_rotation_mass(fixed_rotation: bool, inv_inertia_sum: Matrix3) -> MarkedMatrix3
+    ensures { λ r. ⌜ r ≡ markedMatrix3 (D.prepareRotationMass «fixed_rotation» «inv_inertia_sum»)
+        (D.rotationMassMark «fixed_rotation» «inv_inertia_sum») ⌝ }
 {
     if !fixed_rotation {
         invert_matrix(inv_inertia_sum)
     } else {
-        MAT3_ZERO
+        MarkedMatrix3 {
+            value: MAT3_ZERO,
+            mark: Mark::None,
+        }
     }
 }
 
@@ -151,8 +160,15 @@ pub fn prepare_spherical(
     joint.swing_mass = swing.mass;
     joint.twist_jacobian = twist_jacobian;
     joint.twist_mass = twist.mass;
-    joint.rotation_mass = prepare_rotation_mass(base.fixed_rotation, sum);
+    let mass = prepare_rotation_mass(base.fixed_rotation, sum);
+    let rotation_mass = mass.value;
+    let mass_mark = mass.mark;
+    joint.rotation_mass = rotation_mass;
     joint.spring_softness = make_soft(joint.hertz, joint.damping_ratio, h);
     joint = keep_impulses(joint, enable_warm_starting);
-    SphericalPrepared { base, joint }
+    SphericalPrepared {
+        base,
+        joint,
+        mass_mark,
+    }
 }

@@ -16,6 +16,7 @@ use constraint::angular::swing_angle_if;
 use constraint::angular::twist_angle_if;
 use constraint::angular::upper_limit_sum;
 use constraint::angular::upper_row_to;
+use constraint::answer::Report;
 use constraint::point::point_bias;
 use constraint::rotation::RelativeRotation;
 use constraint::rotation::relative_rotation;
@@ -26,6 +27,7 @@ use constraint::velocity::Velocities;
 use constraint::velocity::apply_axial;
 use constraint::velocity::inv_masses_of;
 use constraint::velocity::velocities_of;
+use math_functions::mark::Mark;
 use math_functions::quat::rotate_vector;
 use math_functions::types::Vec3;
 use records::body::BodyState;
@@ -39,6 +41,7 @@ pub struct SphericalSolved {
     pub joint: SphericalJoint,
     pub angles: LimitAngles,
     pub velocities: Velocities,
+    pub report: Report,
 }
 
 // Where frame B stands relative to frame A.
@@ -250,6 +253,11 @@ pub fn solve_spherical(
     let spring_impulse = spring.impulse;
     let motor_impulse = motor.impulse;
     let velocities = point.velocities;
+    let point_mark = point.mark;
+    let report = Report {
+        perp_mark: Mark::None,
+        point_mark,
+    };
     joint.linear_impulse = linear_impulse;
     joint.spring_impulse = spring_impulse;
     joint.motor_impulse = motor_impulse;
@@ -260,5 +268,6 @@ pub fn solve_spherical(
         joint,
         angles: LimitAngles { twist, swing },
         velocities,
+        report,
     }
 }

@@ -34,7 +34,8 @@ solve-keeps base j a b useBias = refl
 
 -- the indices are handed on unread
 pub solve-indices : (base : JointBase) (j : WeldJoint) (a b : BodyState) (useBias : Bool) (x y : ℤ)
-    → let s = solveWeld base j a b useBias in solveWeld base (withIndices j x y) a b useBias ≡ weldSolved (withIndices (s .joint) x y) (s .velocities)
+    → let s = solveWeld base j a b useBias in
+    solveWeld base (withIndices j x y) a b useBias ≡ weldSolved (withIndices (s .joint) x y) (s .velocities) (s .report)
 unfolding solveWeld jointRotation solveAngular solvePoint solveBias
 solve-indices base j a b useBias x y = refl
 

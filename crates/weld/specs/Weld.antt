@@ -4,11 +4,13 @@ use mathlib.Core.Option.{Option·elim}
 use lib.Ieee.{Float}
 use Rattle.math_functions.specs.declared.types.Vec3.{Vec3}
 use Rattle.math_functions.specs.declared.types.Matrix3.{Matrix3}
+use Rattle.math_functions.specs.declared.mark.Mark.{Mark}
 use Rattle.math_functions.specs.Float.{gt, eq, zero}
 use Rattle.math_functions.specs.Types.{vec3Zero, quatIdentity}
 use Rattle.math_functions.specs.Vector.{add, neg}
 use Rattle.math_functions.specs.Quat.{rotateVector, deltaQuatToRotation}
-use Rattle.math_functions.specs.Matrix.{addMm, invertMatrix, solve3}
+use Rattle.math_functions.specs.Mark.{noMark}
+use Rattle.math_functions.specs.Matrix.{addMm, invertMatrix, invertMatrixMark, solve3, solve3Mark}
 use Rattle.math_functions.specs.Transform.{subPos}
 use Rattle.solver.specs.declared.Softness.{Softness}
 use Rattle.solver.specs.declared.StepContext.{StepContext}
@@ -26,6 +28,8 @@ use Rattle.constraint.specs.declared.velocity.InvMasses.{InvMasses}
 use Rattle.constraint.specs.declared.soft.SoftBias3.{SoftBias3}
 use Rattle.constraint.specs.declared.rotation.RelativeRotation.{RelativeRotation}
 use Rattle.constraint.specs.declared.angular.Row3.{Row3}
+use Rattle.constraint.specs.declared.point.PointRow.{PointRow}
+use Rattle.constraint.specs.declared.answer.Report.{Report}
 use Rattle.constraint.specs.declared.answer.Prepared.{Prepared}
 use Rattle.constraint.specs.declared.answer.WarmStarted.{WarmStarted}
 use Rattle.constraint.specs.declared.answer.Solved.{Solved}
@@ -33,9 +37,9 @@ use Rattle.constraint.specs.Velocity.{velocitiesOf, invMassesOf, applyPoint, ap
 use Rattle.constraint.specs.Soft.{softBias3, rigid3, softImpulse3}
 use Rattle.constraint.specs.Rotation.{flippedRelativeRotation}
 use Rattle.constraint.specs.Angular.{row3, angularRow}
-use Rattle.constraint.specs.Point.{pointBias, pointCdotGrouped, pointMass}
+use Rattle.constraint.specs.Point.{pointResult, pointBias, pointCdotGrouped, pointMass}
 use Rattle.constraint.specs.Prepare.{prepareBase, awakeIndex, prepareFrame}
-use Rattle.constraint.specs.Answer.{prepared, notPrepared, warmStarted, notWarmStarted, solved, notSolved}
+use Rattle.constraint.specs.Answer.{prepared, notPrepared, warmStarted, notWarmStarted, report, solved, notSolved}
 use Rattle.weld.specs.declared.prepare.WeldPrepared.{WeldPrepared}
 use Rattle.weld.specs.declared.solve.WeldSolved.{WeldSolved}
 
@@ -53,8 +57,8 @@ rowSpring hertz dampingRatio h constraintSoftness = cond (eq hertz zero) constra
 unfoldable pub keepImpulses : WeldJoint → Bool → WeldJoint
 keepImpulses j enableWarmStarting = cond (not enableWarmStarting) (withImpulses j vec3Zero vec3Zero) j
 
-abbrev pub weldPrepared : JointBase → WeldJoint → WeldPrepared
-weldPrepared base joint = record { base = base; joint = joint }
+abbrev pub weldPrepared : JointBase → WeldJoint → Mark → WeldPrepared
+weldPrepared base joint massMark = record { base = base; joint = joint; «mass_mark» = massMark }
 
 -- document 01's prepare, where deltaCenter is the difference of the centres. The angular mass is inverted whether or not rotation is fixed
 unfoldable pub prepareWeld : JointBase → WeldJoint → Float → Bool → Vec3 → BodyRecord → BodyRecord → WeldPrepared
@@ -71,7 +75,7 @@ prepareWeld base j h enableWarmStarting deltaCenter bodyA bodyB =
       «delta_center» = deltaCenter;
       «angular_mass» = invertMatrix invInertiaSum;
     }) in
-    weldPrepared (prepareBase base bodyA bodyB) (keepImpulses joint enableWarmStarting)
+    weldPrepared (prepareBase base bodyA bodyB) (keepImpulses joint enableWarmStarting) (invertMatrixMark invInertiaSum)
 
 -- ==== Warm start
 
@@ -103,12 +107,13 @@ weldAngularRow worked rotation useBias hertz s mass oldImpulse m v =
     cond (not worked) (row3 oldImpulse v) (angularRow (angularBias (isSoft useBias hertz) s rotation) mass oldImpulse m v)
 
 -- document 01's point row, with its bias; worked also when rotation is fixed. The velocity error is grouped, unlike revolute's and spherical's
-unfoldable pub pointRow : SoftBias3 → Vec3 → Vec3 → Vec3 → InvMasses → Velocities → Row3
+unfoldable pub pointRow : SoftBias3 → Vec3 → Vec3 → Vec3 → InvMasses → Velocities → PointRow
 pointRow s rA rB oldImpulse m v =
     let cdot = pointCdotGrouped rA rB v in
-    let b = solve3 (pointMass m rA rB) (add cdot (s .bias)) in
+    let k = pointMass m rA rB in
+    let b = solve3 k (add cdot (s .bias)) in
     let impulse = softImpulse3 s b oldImpulse in
-    row3 (add oldImpulse impulse) (applyPoint m rA rB impulse v)
+    pointResult (add oldImpulse impulse) (applyPoint m rA rB impulse v) (solve3Mark k)
 
 -- ==== Solve
 
@@ -128,35 +133,35 @@ solveBias j rA rB stateA stateB useBias =
     let soft = isSoft useBias (j .«linear_hertz») in
     pointBias soft (j .«linear_spring») rA rB (stateA .«delta_position») (stateB .«delta_position») (j .«delta_center»)
 
-unfoldable pub solvePoint : WeldJoint → BodyState → BodyState → Bool → InvMasses → Velocities → Row3
+unfoldable pub solvePoint : WeldJoint → BodyState → BodyState → Bool → InvMasses → Velocities → PointRow
 solvePoint j stateA stateB useBias m v =
     let rA = rotateVector (stateA .«delta_rotation») (j .«frame_a» .p) in
     let rB = rotateVector (stateB .«delta_rotation») (j .«frame_b» .p) in
     pointRow (solveBias j rA rB stateA stateB useBias) rA rB (j .«linear_impulse») m v
 
-abbrev pub weldSolved : WeldJoint → Velocities → WeldSolved
-weldSolved joint velocities = record { joint = joint; velocities = velocities }
+abbrev pub weldSolved : WeldJoint → Velocities → Report → WeldSolved
+weldSolved joint velocities r = record { joint = joint; velocities = velocities; report = r }
 
--- document 01's rows of a weld solve, in order: angular, point
+-- document 01's rows of a weld solve, in order: angular, point. C-15: the mark of the point row is passed on; there is no perpendicular row
 unfoldable pub solveWeld : JointBase → WeldJoint → BodyState → BodyState → Bool → WeldSolved
 solveWeld base j stateA stateB useBias =
     let m = invMassesOf base in
     let rotation = jointRotation j stateA stateB in
     let angular = solveAngular (base .«fixed_rotation») j rotation useBias m (velocitiesOf stateA stateB) in
     let point = solvePoint j stateA stateB useBias m (angular .velocities) in
-    weldSolved (withImpulses j (point .impulse) (angular .impulse)) (point .velocities)
+    weldSolved (withImpulses j (point .impulse) (angular .impulse)) (point .velocities) (report noMark (point .mark))
 
 -- ==== The stages over a joint of any kind
 
 -- A joint whose case is not Weld gets number 1, place 0, and nothing is altered.
 
--- of the context h and enable_warm_starting. C-11: 'prepare stores NaN in both'
+-- of the context h and enable_warm_starting. C-11: 'prepare stores NaN in both'. C-15: the angular mass's mark is passed on
 unfoldable pub prepareWeldJoint : JointSim → StepContext → BodyRecord → BodyRecord → Prepared
 prepareWeldJoint sim context bodyA bodyB =
     Option·elim (asWeld (sim .«union_»)) (notPrepared sim) λ j.
     let deltaCenter = subPos (bodyB .center) (bodyA .center) in
     let r = prepareWeld (sim .base) j (context .h) (context .«enable_warm_starting») deltaCenter bodyA bodyB in
-    prepared (jointSim (r .base) (Weld (r .joint)) noAngles)
+    prepared (jointSim (r .base) (Weld (r .joint)) noAngles) (r .«mass_mark»)
 
 unfoldable pub warmStartWeldJoint : JointSim → BodyState → BodyState → WarmStarted
 warmStartWeldJoint sim stateA stateB =
@@ -167,4 +172,4 @@ unfoldable pub solveWeldJoint : JointSim → StepContext → BodyState → BodyS
 solveWeldJoint sim context stateA stateB useBias =
     Option·elim (asWeld (sim .«union_»)) (notSolved sim stateA stateB) λ j.
     let r = solveWeld (sim .base) j stateA stateB useBias in
-    solved (afterSolve sim (Weld (r .joint)) noAngles) (r .velocities)
+    solved (afterSolve sim (Weld (r .joint)) noAngles) (r .velocities) (r .report)

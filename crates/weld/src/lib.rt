@@ -9,6 +9,7 @@ ghost use Rattle.weld.specs.Weld as D;
 use crate::prepare::prepare_weld;
 use crate::solve::solve_weld;
 use crate::warm_start::warm_start_weld;
+use constraint::answer::NO_REPORT;
 use constraint::answer::Prepared;
 use constraint::answer::Solved;
 use constraint::answer::WRONG_KIND;
@@ -16,6 +17,7 @@ use constraint::answer::WarmStarted;
 use constraint::answer::warm_start_done;
 use constraint::answer::warm_start_refused;
 use constraint::velocity::velocities_of;
+use math_functions::mark::Mark;
 use math_functions::transform::sub_pos;
 use records::body::BodyRecord;
 use records::body::BodyState;
@@ -58,6 +60,7 @@ pub fn prepare_weld_joint(
             number: WRONG_KIND,
             place: 0,
             joint,
+            mass_mark: Mark::None,
         };
     };
     let delta_center = sub_pos(body_b.center, body_a.center);
@@ -70,11 +73,13 @@ pub fn prepare_weld_joint(
         body_a,
         body_b,
     );
+    let mass_mark = p.mass_mark;
     joint = weld_sim(p.base, p.joint, no_angles());
     Prepared {
         number: 0,
         place: 0,
         joint,
+        mass_mark,
     }
 }
 
@@ -107,15 +112,18 @@ pub fn solve_weld_joint(
             place: 0,
             joint,
             velocities: velocities_of(state_a, state_b),
+            report: NO_REPORT,
         };
     };
     let s = solve_weld(joint.base, k, state_a, state_b, use_bias);
     let velocities = s.velocities;
+    let report = s.report;
     joint = weld_sim(joint.base, s.joint, no_angles());
     Solved {
         number: 0,
         place: 0,
         joint,
         velocities,
+        report,
     }
 }

@@ -4,6 +4,7 @@ ghost use Rattle.weld.specs.Weld as D;
 use constraint::prepare::awake_index;
 use constraint::prepare::prepare_base;
 use constraint::prepare::prepare_frame;
+use math_functions::mark::Mark;
 use math_functions::matrix::add_mm;
 use math_functions::matrix::invert_matrix;
 use math_functions::types::VEC3_ZERO;
@@ -18,6 +19,7 @@ use solver::make_soft;
 pub struct WeldPrepared {
     pub base: JointBase,
     pub joint: WeldJoint,
+    pub mass_mark: Mark,
 }
 
 // The softness of a row: the joint's own where the row's hertz is zero.
@@ -64,7 +66,10 @@ pub fn prepare_weld(
     joint.frame_a = prepare_frame(body_a, base.local_frame_a);
     joint.frame_b = prepare_frame(body_b, base.local_frame_b);
     joint.delta_center = delta_center;
-    joint.angular_mass = invert_matrix(inv_inertia_sum);
+    let mass = invert_matrix(inv_inertia_sum);
+    let angular_mass = mass.value;
+    let mass_mark = mass.mark;
+    joint.angular_mass = angular_mass;
     joint.linear_spring = row_spring(joint.linear_hertz, joint.linear_damping_ratio, h, softness);
     joint.angular_spring = row_spring(
         joint.angular_hertz,
@@ -74,5 +79,9 @@ pub fn prepare_weld(
     );
     base = prepare_base(base, body_a, body_b);
     joint = keep_impulses(joint, enable_warm_starting);
-    WeldPrepared { base, joint }
+    WeldPrepared {
+        base,
+        joint,
+        mass_mark,
+    }
 }

@@ -3,6 +3,7 @@ ghost use mathlib.Core.Path.{_≡_};
 ghost use Rattle.weld.specs.Weld as D;
 use constraint::angular::Row3;
 use constraint::angular::angular_row;
+use constraint::point::PointRow;
 use constraint::point::add_mass;
 use constraint::point::point_cdot_grouped;
 use constraint::rotation::RelativeRotation;
@@ -80,7 +81,7 @@ pub fn point_row(
     old_impulse: Vec3,
     m: InvMasses,
     v: Velocities,
-) -> Row3
+) -> PointRow
     ensures { λ r. ⌜ r ≡ D.pointRow s «r_a» «r_b» «old_impulse» m v ⌝ }
 {
     let cdot = point_cdot_grouped(r_a, r_b, v);
@@ -90,11 +91,13 @@ pub fn point_row(
     let k_b = mul_mm(s_b, mul_mm(m.i_b, s_b));
     let k = add_mass(negate_mat3(add_mm(k_a, k_b)), m.m_a + m.m_b);
     let b = solve3(k, add(cdot, s.bias));
-    let delta_impulse = soft_impulse3(s, b, old_impulse);
+    let delta_impulse = soft_impulse3(s, b.value, old_impulse);
     let impulse = add(old_impulse, delta_impulse);
     let velocities = apply_point(m, r_a, r_b, delta_impulse, v);
-    Row3 {
+    let mark = b.mark;
+    PointRow {
         impulse,
         velocities,
+        mark,
     }
 }

@@ -5,6 +5,7 @@ use crate::rows::is_soft;
 use crate::rows::point_row;
 use crate::rows::weld_angular_row;
 use constraint::angular::Row3;
+use constraint::answer::Report;
 use constraint::point::point_bias;
 use constraint::rotation::RelativeRotation;
 use constraint::rotation::same_polarity;
@@ -13,6 +14,7 @@ use constraint::velocity::InvMasses;
 use constraint::velocity::Velocities;
 use constraint::velocity::inv_masses_of;
 use constraint::velocity::velocities_of;
+use math_functions::mark::Mark;
 use math_functions::quat::inv_mul_quat;
 use math_functions::quat::mul_quat;
 use math_functions::quat::rotate_vector;
@@ -25,6 +27,7 @@ use records::joint::WeldJoint;
 pub struct WeldSolved {
     pub joint: WeldJoint,
     pub velocities: Velocities,
+    pub report: Report,
 }
 
 // Where frame B stands relative to frame A.
@@ -106,7 +109,16 @@ pub fn solve_weld(
     let linear_impulse = point.impulse;
     let angular_impulse = angular.impulse;
     let velocities = point.velocities;
+    let point_mark = point.mark;
+    let report = Report {
+        perp_mark: Mark::None,
+        point_mark,
+    };
     joint.linear_impulse = linear_impulse;
     joint.angular_impulse = angular_impulse;
-    WeldSolved { joint, velocities }
+    WeldSolved {
+        joint,
+        velocities,
+        report,
+    }
 }

@@ -4,9 +4,9 @@
 
 use crate::body::BodyState;
 use crate::cases::Random;
-use crate::core::NULL_INDEX;
 use crate::edges;
 use crate::joint::{JointSim, JointUnion, SphericalJoint};
+use crate::marks::{arms, perp_axes, perp_matrix, point_matrix};
 use crate::math_functions::*;
 use crate::records::{limit, sides, Kind};
 use crate::scene::{choose, positive, rotations};
@@ -160,29 +160,6 @@ fn scaled_matrix(random: &mut Random, matrix: Matrix3, factor: f64) -> Matrix3 {
     scaled
 }
 
-/// The arms from the bodies' centres, as solve computes them.
-fn arms(joint: &JointSim, states: &[BodyState]) -> [Vec3; 2] {
-    let mut joint = *joint;
-    sides(&mut joint).map(|(index, frame)| match *index {
-        NULL_INDEX => rotate_vector(QUAT_IDENTITY, frame.p),
-        index => rotate_vector(states[index as usize].delta_rotation, frame.p),
-    })
-}
-
-/// The matrix of the point row, as solve computes it.
-fn point_matrix(joint: &JointSim, [r_a, r_b]: [Vec3; 2]) -> Matrix3 {
-    let turning = |inv_i, r| mul_mm(skew(r), mul_mm(inv_i, skew(r)));
-    let mut k = negate_mat3(add_mm(
-        turning(joint.inv_i_a, r_a),
-        turning(joint.inv_i_b, r_b),
-    ));
-    let inv_mass = joint.inv_mass_a + joint.inv_mass_b;
-    k.cx.x += inv_mass;
-    k.cy.y += inv_mass;
-    k.cz.z += inv_mass;
-    k
-}
-
 /// Scales the inertias until the determinant of the perpendicular row is the target.
 fn perpendicular(random: &mut Random, joint: &mut JointSim, states: &[BodyState]) {
     let axes = perp_axes(joint, states);
@@ -204,35 +181,9 @@ fn perpendicular(random: &mut Random, joint: &mut JointSim, states: &[BodyState]
     }
 }
 
-/// The rotation of frame B as frame A sees it, after the flip that revolute and weld make, and the
-/// rotation of frame A.
-pub fn flipped(joint: &JointSim, states: &[BodyState]) -> [Quat; 2] {
-    let [a, mut b] = rotations(joint, states);
-    if dot_quat(a, b) < 0.0 {
-        b = negate_quat(b);
-    }
-    [inv_mul_quat(a, b), a]
-}
-
-/// The axes of the perpendicular row, as solve computes them.
-fn perp_axes(joint: &JointSim, states: &[BodyState]) -> [Vec3; 2] {
-    let [rel_q, quat_a] = flipped(joint, states);
-    [VEC3_AXIS_X, VEC3_AXIS_Y].map(|axis| {
-        let turned = add(mul_sv(rel_q.s, axis), cross(rel_q.v, axis));
-        mul_sv(0.5, rotate_vector(quat_a, turned))
-    })
-}
-
 /// The determinant of the perpendicular row, as solve computes it.
-fn det2_of(joint: &JointSim, [x, y]: [Vec3; 2]) -> f32 {
-    let inertia = add_mm(joint.inv_i_a, joint.inv_i_b);
-    let kxx = dot(x, mul_mv(inertia, x));
-    let kyy = dot(y, mul_mv(inertia, y));
-    let kxy = dot(x, mul_mv(inertia, y));
-    call_det2(Mat2 {
-        cx: Vec2 { x: kxx, y: kxy },
-        cy: Vec2 { x: kxy, y: kyy },
-    })
+fn det2_of(joint: &JointSim, axes: [Vec3; 2]) -> f32 {
+    call_det2(perp_matrix(joint, axes))
 }
 
 /// Negates frame B where that brings the s of the relative rotation below zero, and gives the

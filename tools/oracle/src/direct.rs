@@ -1,11 +1,13 @@
 //! Cases for the direct calls on lent memory: warm start and solve of a kind, called on a joint of
-//! any case. The numbers are document 01's; where a call is not refused, the Rust answers.
+//! any case. The numbers are document 01's; where a call is not refused, the Rust answers. Each answer has
+//! the marks of a solve, which a warm start and a refusal do not have.
 
 use crate::body::BodyState;
 use crate::cases::{List, Random, Step};
 use crate::core::NULL_INDEX;
 use crate::direct_edges;
 use crate::joint::JointSim;
+use crate::marks::NO_REPORT;
 use crate::plain_run::direct_number;
 use crate::records::{
     case_word, indices, read_cased_joint, set_indices, write_joint, Kind, EMPTY, KINDS,
@@ -57,6 +59,9 @@ fn answer((_, stage, called): Call, from: &mut &[u32]) -> Vec<u32> {
     } else {
         write_joint(&joint, &mut answer);
         write_all(&states, &mut answer);
+    }
+    if refusal != 0 || stage == WarmStart {
+        NO_REPORT.write(&mut answer);
     }
     answer
 }

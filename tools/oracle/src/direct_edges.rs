@@ -1,11 +1,12 @@
 //! The fixed cases at document 01's edges of the direct calls: cases of the joint, indices, counts
-//! of bodies, flags, long slices; and what `aims` brings joints to.
+//! of bodies, flags, long slices; what `aims` brings joints to; and what the marks go by.
 
 use crate::aims::Aim;
 use crate::body::body_flags::DYNAMIC_FLAG;
 use crate::cases::{List, Random, Step};
 use crate::core::NULL_INDEX;
 use crate::direct::{case, lengthen, other_kind, Call, CALLS, MOST_STATES};
+use crate::mark_edges::{pairs_of_rows, set_rows};
 use crate::records::{joint_type, set_indices, EMPTY, KINDS};
 use crate::scene::Scene;
 use crate::stage_edges::two_bodies;
@@ -25,6 +26,11 @@ pub fn write(list: &mut List) -> Step {
         flags(random, call, list)?;
         long_slices(random, call, list)?;
         aims(random, call, list)?;
+    }
+    // Drawn apart, so that the cases before them stay what they are.
+    let random = &mut Random::new(0, 13);
+    for call in CALLS {
+        marks(random, call, list)?;
     }
     Ok(())
 }
@@ -145,6 +151,23 @@ fn aims(random: &mut Random, call: Call, list: &mut List) -> Step {
         for _ in 0..2 {
             let mut scene = moving(random, call);
             scene.aim(random, *aim);
+            case(call, &scene, list)?;
+        }
+    }
+    Ok(())
+}
+
+/// Solves, the rows with each determinant that their marks go by, rotation fixed and not.
+fn marks(random: &mut Random, call: Call, list: &mut List) -> Step {
+    let (_, stage, _) = call;
+    if stage != Stage::Solve {
+        return Ok(());
+    }
+    for rows in pairs_of_rows() {
+        for fixed_rotation in [false, true] {
+            let mut scene = moving(random, call);
+            set_rows(&mut scene, rows);
+            scene.joint.fixed_rotation = fixed_rotation;
             case(call, &scene, list)?;
         }
     }

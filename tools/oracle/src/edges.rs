@@ -1,11 +1,12 @@
 //! The fixed cases at the places where the leaves decide: determinants and lengths at the
-//! threshold, the polarity of quaternions, the octants of an angle.
+//! threshold, the polarity of quaternions, the octants of an angle, and what the marks go by.
 
 use crate::cases::{
     List, Random, Step, INFINITY, LEAST, MINUS_INFINITY, MINUS_LEAST, MINUS_ONE, MINUS_ZERO, NAN,
     ONE, PLUS_ZERO, THRESHOLD,
 };
 use crate::leaves::Leaf;
+use crate::mark_edges::{determinants, sum_of};
 use crate::math_functions::{call_det2, cross, det, Mat2, Matrix3, Vec2, Vec3};
 use crate::words::{Shape, Words};
 
@@ -16,7 +17,8 @@ pub fn write(list: &mut List) -> Step {
     lengths(list)?;
     polarities(list)?;
     twists(list)?;
-    octants(list)
+    octants(list)?;
+    marks(list)
 }
 
 /// The values that a determinant or a squared length is brought to: the threshold between the floats
@@ -49,7 +51,7 @@ fn bits(values: &[f32]) -> Vec<u32> {
 }
 
 /// Two to a power, for normal numbers.
-fn power(exponent: i32) -> f32 {
+pub fn power(exponent: i32) -> f32 {
     f32::from_bits(((exponent + 127) as u32) << 23)
 }
 
@@ -60,6 +62,10 @@ fn vec3(x: f32, y: f32, z: f32) -> Vec3 {
 fn matrix3(columns: [[f32; 3]; 3]) -> Matrix3 {
     let [cx, cy, cz] = columns.map(|[x, y, z]| vec3(x, y, z));
     Matrix3 { cx, cy, cz }
+}
+
+pub fn diagonal(a: f32, b: f32, c: f32) -> Matrix3 {
+    matrix3([[a, 0.0, 0.0], [0.0, b, 0.0], [0.0, 0.0, c]])
 }
 
 fn mat2([[a, b], [c, d]]: [[f32; 2]; 2]) -> Mat2 {
@@ -105,7 +111,7 @@ pub fn with_determinant(target: f32) -> Vec<Matrix3> {
     let mut matrices = Vec::new();
     for turn in 0..3 {
         let [a, b, c] = [0, 1, 2].map(|i| factors[(i + turn) % 3]);
-        matrices.push(matrix3([[a, 0.0, 0.0], [0.0, b, 0.0], [0.0, 0.0, c]]));
+        matrices.push(diagonal(a, b, c));
     }
     let [a, b, c] = factors;
     matrices.extend([
@@ -159,7 +165,6 @@ fn tuned_matrix3(matrix: Matrix3, target: f32) -> Option<Matrix3> {
 
 /// Matrices with determinants of zero, NaN and the infinities.
 pub fn without_inverse() -> [Matrix3; 10] {
-    let diagonal = |a, b, c| matrix3([[a, 0.0, 0.0], [0.0, b, 0.0], [0.0, 0.0, c]]);
     let infinity = f32::INFINITY;
     [
         matrix3([[0.0; 3]; 3]),
@@ -397,6 +402,16 @@ fn octants(list: &mut List) -> Step {
                 Leaf::named("atan2").case(&bits(&[y, x]), list)?;
             }
         }
+    }
+    Ok(())
+}
+
+/// Each determinant that a mark goes by, of both sizes of matrix.
+fn marks(list: &mut List) -> Step {
+    for determinant in determinants() {
+        about_matrix3(sum_of(determinant), list)?;
+        let (a, b) = (determinant * power(20), power(-20));
+        about_mat2(mat2([[a, 0.0], [0.0, b]]), list)?;
     }
     Ok(())
 }

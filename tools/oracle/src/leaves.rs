@@ -3,6 +3,7 @@
 use crate::cases::{List, Random, Step, PALETTE};
 use crate::draw;
 use crate::edges;
+use crate::marks::{invert_matrix, solve2, solve3, Marked};
 use crate::math_functions::call_det2 as det2;
 use crate::math_functions::*;
 use crate::solver::{make_soft, Softness};
@@ -53,7 +54,8 @@ macro_rules! leaf {
     };
 }
 
-/// The functions: number, name, types, combinations of the palette, turns.
+/// The functions: number, name, types, combinations of the palette, turns. Those that may fall back to
+/// zeros are those of `marks`.
 const LEAVES: &[Leaf] = &[
     leaf!(0x10 abs_float(f32) -> f32, All, 1),
     leaf!(0x11 min_float(f32, f32) -> f32, All, 1),
@@ -88,10 +90,10 @@ const LEAVES: &[Leaf] = &[
     leaf!(0x52 negate_mat3(Matrix3) -> Matrix3, Drawn, 1),
     leaf!(0x53 add_mm(Matrix3, Matrix3) -> Matrix3, Drawn, 1),
     leaf!(0x54 mul_mm(Matrix3, Matrix3) -> Matrix3, Drawn, 2),
-    leaf!(0x56 invert_matrix(Matrix3) -> Matrix3, Aimed, 4),
-    leaf!(0x57 solve3(Matrix3, Vec3) -> Vec3, Aimed, 4),
+    leaf!(0x56 invert_matrix(Matrix3) -> Marked<Matrix3>, Aimed, 4),
+    leaf!(0x57 solve3(Matrix3, Vec3) -> Marked<Vec3>, Aimed, 4),
     leaf!(0x58 det2(Mat2) -> f32, Aimed, 2),
-    leaf!(0x59 solve2(Mat2, Vec2) -> Vec2, Aimed, 4),
+    leaf!(0x59 solve2(Mat2, Vec2) -> Marked<Vec2>, Aimed, 4),
     leaf!(0x5a skew(Vec3) -> Matrix3, Once, 1),
     leaf!(0x60 sub_pos(Pos, Pos) -> Vec3, Drawn, 2),
     leaf!(0x70 make_soft(f32, f32, f32) -> Softness, All, 3),

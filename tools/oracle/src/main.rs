@@ -12,6 +12,8 @@ mod direct_edges;
 mod draw;
 mod edges;
 mod leaves;
+mod mark_edges;
+mod marks;
 mod plain_run;
 mod records;
 mod reorder;

@@ -139,8 +139,10 @@ impl Scene {
         let kind = kind_of(joint).expect("the call was not tested");
         match stage {
             0 => warm_start(kind, joint, states),
-            1 => solve(kind, joint, &self.context, true, states),
-            _ => solve(kind, joint, &self.context, false, states),
+            // A run answers no marks.
+            _ => {
+                solve(kind, joint, &self.context, stage == 1, states);
+            }
         }
     }
 

@@ -279,6 +279,16 @@ pub fn rotations(joint: &JointSim, states: &[BodyState]) -> [Quat; 2] {
     })
 }
 
+/// The rotation of frame B as frame A sees it, after the flip that revolute and weld make, and the
+/// rotation of frame A.
+pub fn flipped(joint: &JointSim, states: &[BodyState]) -> [Quat; 2] {
+    let [a, mut b] = rotations(joint, states);
+    if dot_quat(a, b) < 0.0 {
+        b = negate_quat(b);
+    }
+    [inv_mul_quat(a, b), a]
+}
+
 /// What a float is changed to.
 pub type Change = fn(&mut Random, f32) -> f32;
 

@@ -1,11 +1,12 @@
 //! The fixed cases at the places where the stages decide: determinants at the threshold, the hertz
-//! of no spring, axes along each other, the polarity of quaternions, angles at their limits, and what
-//! `aims` brings joints to.
+//! of no spring, axes along each other, the polarity of quaternions, angles at their limits, what
+//! `aims` brings joints to, and what the marks go by.
 
 use crate::aims::Aim;
 use crate::body::body_flags::DYNAMIC_FLAG;
 use crate::cases::{List, Random, Step};
 use crate::edges;
+use crate::mark_edges::{determinants as mark_determinants, pairs_of_rows, set_rows, sum_of};
 use crate::math_functions::{
     get_swing_angle, get_twist_angle, Quat, Vec3, QUAT_IDENTITY, VEC3_AXIS_Z,
 };
@@ -26,7 +27,14 @@ pub fn write(list: &mut List) -> Step {
     }
     axes(random, list)?;
     limits(random, list)?;
-    aims(random, list)
+    aims(random, list)?;
+    // Drawn apart, so that the cases before them stay what they are.
+    let random = &mut Random::new(0, 12);
+    for kind in KINDS {
+        mass_marks(random, kind, list)?;
+        row_marks(random, kind, list)?;
+    }
+    Ok(())
 }
 
 /// A tame scene of two bodies: two different ones, and for solve both awake and dynamic.
@@ -167,6 +175,29 @@ fn aims(random: &mut Random, list: &mut List) -> Step {
                 scene.aim(random, *aim);
                 case(Stage::Solve, &scene, list)?;
             }
+        }
+    }
+    Ok(())
+}
+
+/// Prepare, the sum of the inverse inertias with each determinant that its mark goes by.
+fn mass_marks(random: &mut Random, kind: Kind, list: &mut List) -> Step {
+    for determinant in mark_determinants() {
+        let mut scene = two_bodies(random, Stage::Prepare, kind);
+        scene.set_inertia(random, sum_of(determinant));
+        case(Stage::Prepare, &scene, list)?;
+    }
+    Ok(())
+}
+
+/// Solve, the rows with each determinant that their marks go by, rotation fixed and not.
+fn row_marks(random: &mut Random, kind: Kind, list: &mut List) -> Step {
+    for rows in pairs_of_rows() {
+        for fixed_rotation in SWITCH {
+            let mut scene = two_bodies(random, Stage::Solve, kind);
+            set_rows(&mut scene, rows);
+            scene.joint.fixed_rotation = fixed_rotation;
+            case(Stage::Solve, &scene, list)?;
         }
     }
     Ok(())

@@ -1,16 +1,16 @@
 //! Cases for the stages of the joints: prepare, warm start and solve of three kinds. Each is the Rust's
-//! own, and beside it what C-11 says of the joint's two angles.
+//! own, and beside it what C-11 says of the joint's two angles; the marks are those of `marks`.
 
-use crate::aims::flipped;
 use crate::body::BodyState;
 use crate::cases::{List, Random, Step};
 use crate::joint::revolute::*;
 use crate::joint::spherical::*;
 use crate::joint::weld::*;
 use crate::joint::JointUnion;
+use crate::marks::{mass_mark, report, Mark, Report};
 use crate::math_functions::{get_swing_angle, get_twist_angle, inv_mul_quat};
 use crate::records::{self, read_joint, write_joint, Angles, BodyRecord, Joint, Kind, NO_ANGLES};
-use crate::scene::{rotations, Scene};
+use crate::scene::{flipped, rotations, Scene};
 use crate::solver::StepContext;
 use crate::stage_edges;
 use crate::words::{read_all, write_all, Words};
@@ -38,8 +38,13 @@ const STAGES: [(u32, Stage, Kind); 9] = [
     (0x8a, Solve, Weld),
 ];
 
-/// Prepares a joint between two bodies. No limit row has been worked then.
-pub fn prepare(kind: Kind, joint: &mut Joint, context: &StepContext, bodies: &[BodyRecord; 2]) {
+/// Prepares a joint between two bodies, and tells the mark of its mass. No limit row has been worked then.
+pub fn prepare(
+    kind: Kind,
+    joint: &mut Joint,
+    context: &StepContext,
+    bodies: &[BodyRecord; 2],
+) -> Mark {
     let prepare = match kind {
         Revolute => prepare_revolute_joint,
         Spherical => prepare_spherical_joint,
@@ -49,6 +54,7 @@ pub fn prepare(kind: Kind, joint: &mut Joint, context: &StepContext, bodies: &[B
     let world = records::world(ids.into_iter().zip(*bodies));
     prepare(&world, joint, context);
     joint.angles = NO_ANGLES;
+    mass_mark(joint)
 }
 
 /// Warm starts a joint, which keeps its angles.
@@ -61,21 +67,23 @@ pub fn warm_start(kind: Kind, joint: &mut Joint, states: &mut [BodyState]) {
     warm_start(joint, states);
 }
 
-/// Solves a joint, which stores the angles of the limit rows that are worked.
+/// Solves a joint, which stores the angles of the limit rows that are worked, and tells the marks.
 pub fn solve(
     kind: Kind,
     joint: &mut Joint,
     context: &StepContext,
     use_bias: bool,
     states: &mut [BodyState],
-) {
+) -> Report {
     let solve = match kind {
         Revolute => solve_revolute_joint,
         Spherical => solve_spherical_joint,
         Weld => solve_weld_joint,
     };
     joint.angles = worked_angles(joint, states);
+    let report = report(joint, states);
     solve(joint, context, states, use_bias);
+    report
 }
 
 /// The angle of each limit row that a solve works, and NaN for one that it does not: the Rust's
@@ -126,15 +134,16 @@ pub fn inputs(stage: Stage, scene: &Scene) -> Vec<u32> {
     words
 }
 
-/// Takes the inputs of a stage off the front of `from` and asks the Rust.
+/// Takes the inputs of a stage off the front of `from` and asks the Rust. The marks come last.
 pub fn answer(stage: Stage, kind: Kind, from: &mut &[u32]) -> Vec<u32> {
     let mut joint = read_joint(kind, from);
     let mut states = Vec::new();
+    let mut marks = Vec::new();
     match stage {
         Prepare => {
             let context = StepContext::read(from);
             let bodies = [BodyRecord::read(from), BodyRecord::read(from)];
-            prepare(kind, &mut joint, &context, &bodies);
+            prepare(kind, &mut joint, &context, &bodies).write(&mut marks);
         }
         WarmStart => {
             states = read_states(from);
@@ -144,12 +153,13 @@ pub fn answer(stage: Stage, kind: Kind, from: &mut &[u32]) -> Vec<u32> {
             let context = StepContext::read(from);
             let use_bias = bool::read(from);
             states = read_states(from);
-            solve(kind, &mut joint, &context, use_bias, &mut states);
+            solve(kind, &mut joint, &context, use_bias, &mut states).write(&mut marks);
         }
     }
     let mut words = Vec::new();
     write_joint(&joint, &mut words);
     write_all(&states, &mut words);
+    words.extend(marks);
     words
 }
 

@@ -1,6 +1,6 @@
 //! The fixed cases by value at document 01's edges: cases of the joint, indices and flags that no
 //! stage by value reads, impulses about zero, determinants at the threshold; C-11's angles at those of
-//! the limits; and what `aims` brings joints to.
+//! the limits; what `aims` brings joints to; and what the marks go by.
 
 use crate::aims::Aim;
 use crate::cases::{
@@ -10,6 +10,7 @@ use crate::cases::{
 use crate::direct::other_kind;
 use crate::direct_edges::FLAGS;
 use crate::edges;
+use crate::mark_edges::{determinants as mark_determinants, pairs_of_rows, set_rows, sum_of};
 use crate::math_functions::{Matrix3, Vec3};
 use crate::records::{
     joint_type, limit, limit_count, set_indices, Angles, Joint, Kind, EMPTY, KINDS,
@@ -40,6 +41,14 @@ pub fn write(list: &mut List) -> Step {
     switches(random, list)?;
     for call in CALLS {
         not_symmetric(random, call, list)?;
+    }
+    let random = &mut Random::new(0, 14);
+    for call in CALLS {
+        match call.1 {
+            Stage::Prepare => mass_marks(random, call, list)?,
+            Stage::WarmStart => {}
+            Stage::Solve => row_marks(random, call, list)?,
+        }
     }
     Ok(())
 }
@@ -264,6 +273,29 @@ fn determinants(random: &mut Random, call: Call, list: &mut List) -> Step {
         let mut scene = two_bodies(random, stage, called);
         scene.set_inertia(random, sum);
         case(call, &scene, &pair(&scene), list)?;
+    }
+    Ok(())
+}
+
+/// Prepare, the sum of the inverse inertias with each determinant that its mark goes by.
+fn mass_marks(random: &mut Random, call: Call, list: &mut List) -> Step {
+    for determinant in mark_determinants() {
+        let mut scene = two_bodies(random, call.1, call.2);
+        scene.set_inertia(random, sum_of(determinant));
+        case(call, &scene, &pair(&scene), list)?;
+    }
+    Ok(())
+}
+
+/// Solves, the rows with each determinant that their marks go by, rotation fixed and not.
+fn row_marks(random: &mut Random, call: Call, list: &mut List) -> Step {
+    for rows in pairs_of_rows() {
+        for fixed_rotation in SWITCH {
+            let mut scene = two_bodies(random, call.1, call.2);
+            set_rows(&mut scene, rows);
+            scene.joint.fixed_rotation = fixed_rotation;
+            case(call, &scene, &pair(&scene), list)?;
+        }
     }
     Ok(())
 }

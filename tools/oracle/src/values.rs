@@ -7,6 +7,7 @@ use crate::cases::{List, Random, Step};
 use crate::direct::other_kind;
 use crate::draw::pattern;
 use crate::joint::JointUnion;
+use crate::marks::{Mark, NO_REPORT};
 use crate::records::{
     indices, kind_of, limit, limit_count, read_cased_joint, set_indices, write_cased_joint,
     write_joint, Angles, BodyRecord, Joint, Kind, EMPTY, KINDS,
@@ -110,7 +111,7 @@ pub fn pair(scene: &Scene) -> [BodyState; 2] {
 }
 
 /// Takes the inputs of a stage by value off the front of `from`, and asks the Rust unless it is
-/// refused.
+/// refused. The marks of a prepare and of a solve come last; a refusal has none.
 fn answer((_, stage, called): Call, from: &mut &[u32]) -> Vec<u32> {
     let mut joint = read_cased_joint(from);
     let is_refused = kind_of(&joint) != Some(called);
@@ -122,17 +123,20 @@ fn answer((_, stage, called): Call, from: &mut &[u32]) -> Vec<u32> {
     let mut answer = vec![number, 0];
     if stage == Prepare {
         let bodies = [BodyRecord::read(from), BodyRecord::read(from)];
-        if !is_refused {
-            stages::prepare(called, &mut joint, &context, &bodies);
-        }
+        let mark = match is_refused {
+            true => Mark::None,
+            false => stages::prepare(called, &mut joint, &context, &bodies),
+        };
         write_joint(&joint, &mut answer);
+        mark.write(&mut answer);
         return answer;
     }
     let use_bias = stage == Solve && bool::read(from);
     let mut pair = [BodyState::read(from), BodyState::read(from)];
+    let mut report = NO_REPORT;
     if !is_refused {
         on_slice(&mut joint, &mut pair, |joint, states| match stage {
-            Solve => stages::solve(called, joint, &context, use_bias, states),
+            Solve => report = stages::solve(called, joint, &context, use_bias, states),
             _ => stages::warm_start(called, joint, states),
         });
     }
@@ -140,6 +144,9 @@ fn answer((_, stage, called): Call, from: &mut &[u32]) -> Vec<u32> {
     for state in pair {
         state.linear_velocity.write(&mut answer);
         state.angular_velocity.write(&mut answer);
+    }
+    if stage == Solve {
+        report.write(&mut answer);
     }
     answer
 }

@@ -15,7 +15,7 @@ returns c =
 
 returns-2 : tie.Need-returns-2
 unfolding solveRevoluteJoint Option·elim
-returns-2 c = rw (c .before .before .before .before .u .given .1, ← (c .before .before .solve-revolute .ensures), ← (c .revolute-sim .ensures))
+returns-2 c = rw (c .before .before .before .before .before .u .given .1, ← (c .before .before .before .solve-revolute .ensures), ← (c .revolute-sim .ensures))
 
 pub solve-revolute-joint-spec : {M : Type 1} → statement M
 solve-revolute-joint-spec = tie.close (tie.spec (λ c. search needs) (λ c κs. tt) returns (λ c κs. tt) (λ c κs. tt) returns-2)

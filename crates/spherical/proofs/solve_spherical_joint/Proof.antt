@@ -15,7 +15,11 @@ returns c =
 
 returns-2 : tie.Need-returns-2
 unfolding solveSphericalJoint Option·elim
-returns-2 c = rw (c .before .before .before .before .u .given .1, ← (c .before .before .solve-spherical .ensures), ← (c .spherical-sim .ensures))
+returns-2 c = rw (
+  c .before .before .before .before .before .u .given .1,
+  ← (c .before .before .before .solve-spherical .ensures),
+  ← (c .spherical-sim .ensures),
+)
 
 pub solve-spherical-joint-spec : {M : Type 1} → statement M
 solve-spherical-joint-spec = tie.close (tie.spec (λ c. search needs) (λ c κs. tt) returns (λ c κs. tt) (λ c κs. tt) returns-2)

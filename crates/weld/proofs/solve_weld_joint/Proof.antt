@@ -15,8 +15,8 @@ returns c =
 returns-2 : tie.Need-returns-2
 unfolding solveWeldJoint Option·elim
 returns-2 c = rw (
-  c .before .before .before .before .before .u .given .1,
-  ← (c .before .before .before .solve-weld .ensures),
+  c .before .before .before .before .before .before .u .given .1,
+  ← (c .before .before .before .before .solve-weld .ensures),
   ← (c .before .no-angles .ensures),
   ← (c .weld-sim .ensures),
 )

@@ -1,9 +1,9 @@
-use Rattle.math_functions.specs.Matrix.{solve3}
+use Rattle.math_functions.specs.Matrix.{solve3, solve3Mark}
 use Rattle.math_functions.proofs.matrix.solve3.Statement.{statement}
 use Rattle.math_functions.proofs.matrix.solve3.Tie as tie
 
 returns : tie.Need-returns
-unfolding solve3
+unfolding solve3 solve3Mark
 returns c = rw (
   ← (c .before .before .before .before .before .before .before .before .det .ensures),
   ← (c .before .before .before .before .before .before .before .abs-float .ensures),
@@ -17,7 +17,7 @@ returns c = rw (
 )
 
 returns-2 : tie.Need-returns-2
-unfolding solve3
+unfolding solve3 solve3Mark
 returns-2 c = rw (← (c .before .before .det .ensures), ← (c .before .abs-float .ensures), c .if1 .left)
 
 pub solve3-spec : {M : Type 1} → statement M

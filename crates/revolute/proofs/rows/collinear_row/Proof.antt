@@ -1,3 +1,5 @@
+use mathlib.Core.Path.{ap}
+use Rattle.math_functions.specs.declared.matrix.MarkedVec2.{MarkedVec2}
 use Rattle.revolute.specs.Revolute.{collinearRow}
 use Rattle.revolute.proofs.rows.collinear_row.Statement.{statement}
 use Rattle.revolute.proofs.rows.collinear_row.Tie as tie
@@ -11,7 +13,8 @@ returns c = rw (
   ← (c .before .before .before .before .before .before .before .dot .ensures),
   ← (c .before .before .before .before .before .before .dot2 .ensures),
   ← (c .before .before .before .before .before .add2 .ensures),
-  ← (c .before .before .before .before .solve2 .ensures),
+  ← (ap (λ (z : MarkedVec2). z .value) (c .before .before .before .before .solve2 .ensures)),
+  ← (ap (λ (z : MarkedVec2). z .mark) (c .before .before .before .before .solve2 .ensures)),
   ← (c .before .before .before .soft-impulse2-products .ensures),
   ← (c .before .before .add22 .ensures),
   ← (c .before .perp-angular-impulse .ensures),

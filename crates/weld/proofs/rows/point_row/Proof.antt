@@ -1,3 +1,5 @@
+use mathlib.Core.Path.{ap}
+use Rattle.math_functions.specs.declared.matrix.MarkedVec3.{MarkedVec3}
 use Rattle.constraint.specs.Point.{pointMass}
 use Rattle.weld.specs.Weld.{pointRow}
 use Rattle.weld.proofs.rows.point_row.Statement.{statement}
@@ -17,7 +19,8 @@ returns c = rw (
   ← (c .before .before .before .before .before .before .before .negate-mat3 .ensures),
   ← (c .before .before .before .before .before .add-mass .ensures),
   ← (c .before .before .before .before .add .ensures),
-  ← (c .before .before .before .solve3 .ensures),
+  ← (ap (λ (z : MarkedVec3). z .value) (c .before .before .before .solve3 .ensures)),
+  ← (ap (λ (z : MarkedVec3). z .mark) (c .before .before .before .solve3 .ensures)),
   ← (c .before .before .soft-impulse3 .ensures),
   ← (c .before .add2 .ensures),
   ← (c .apply-point .ensures),
