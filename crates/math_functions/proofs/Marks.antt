@@ -38,24 +38,10 @@ pub marks-say : MarksSay
 unfolding solve2Mark solve3Mark invertMatrixMark
 marks-say = record { solve2 = λ m. said true (passes2 m); solve3 = λ m. said true (passes3 m); inverse = λ m. said true (passes3 m) }
 
--- a leaf that fell back has not passed, and the other way round
-failed : (passes : Bool) → markOf true passes ≡ FellBack → passes ≡ false
-failed true e = cc
-failed false e = refl
+-- ---- where the test fails
 
 back : (passes : Bool) → passes ≡ false → markOf true passes ≡ FellBack
 back passes e = rw e
-
-pub fell-back-to-zeros : FellBackToZeros
-unfolding solve2 solve2Mark solve3 solve3Mark invertMatrix invertMatrixMark
-fell-back-to-zeros =
-    record {
-      solve2 = λ m b e. rw (failed (passes2 m) e);
-      solve3 = λ m a e. rw (failed (passes3 m) e);
-      inverse = λ m e. rw (failed (passes3 m) e);
-    }
-
--- ---- where the test fails
 
 size-of-nan : absFloat nan ≡ nan
 unfolding absFloat Ieee.lt
@@ -71,11 +57,27 @@ pub fell-back-at : FellBackAt
 unfolding solve2Mark solve3Mark invertMatrixMark
 fell-back-at =
     record {
+      solve2-negative = λ m e. back _ (negative-not-above-threshold (det2 m) e);
       solve2-threshold = λ m e. back _ (at-threshold (det2 m) e);
       solve2-nan = λ m e. back _ (ap (λ x. gt x threshold) e ∙ nan-not-above-threshold);
-      solve2-negative = λ m e. back _ (negative-not-above-threshold (det2 m) e);
       solve3-threshold = λ m e. back _ (at-threshold (absFloat (det m)) e);
       solve3-nan = λ m e. back _ (at-nan (det m) e);
       inverse-threshold = λ m e. back _ (at-threshold (absFloat (det m)) e);
       inverse-nan = λ m e. back _ (at-nan (det m) e);
+    }
+
+-- ---- what a leaf that fell back gives
+
+-- a leaf that fell back has not passed
+failed : (passes : Bool) → markOf true passes ≡ FellBack → passes ≡ false
+failed true e = cc
+failed false e = refl
+
+pub fell-back-to-zeros : FellBackToZeros
+unfolding solve2 solve2Mark solve3 solve3Mark invertMatrix invertMatrixMark
+fell-back-to-zeros =
+    record {
+      solve2 = λ m b e. rw (failed (passes2 m) e);
+      solve3 = λ m a e. rw (failed (passes3 m) e);
+      inverse = λ m e. rw (failed (passes3 m) e);
     }
