@@ -35,9 +35,9 @@ pub record FellBackToZeros : Type 0 where
 -- A leaf whose determinant equals the threshold fell back, and one whose determinant is a NaN: in `solve2` also one whose determinant is negative, in the other
 -- two where the size of it equals the threshold.
 pub record FellBackAt : Type 0 where
+  pub solve2-negative : (m : Mat2) → lt (det2 m) zero ≡ true → solve2Mark m ≡ FellBack
   pub solve2-threshold : (m : Mat2) → det2 m ≡ threshold → solve2Mark m ≡ FellBack
   pub solve2-nan : (m : Mat2) → det2 m ≡ nan → solve2Mark m ≡ FellBack
-  pub solve2-negative : (m : Mat2) → lt (det2 m) zero ≡ true → solve2Mark m ≡ FellBack
   pub solve3-threshold : (m : Matrix3) → absFloat (det m) ≡ threshold → solve3Mark m ≡ FellBack
   pub solve3-nan : (m : Matrix3) → det m ≡ nan → solve3Mark m ≡ FellBack
   pub inverse-threshold : (m : Matrix3) → absFloat (det m) ≡ threshold → invertMatrixMark m ≡ FellBack
