@@ -222,7 +222,6 @@ def mark_versions():
     """Marks by another test, of another matrix, or of what has none."""
     test, marked = "determinant > 1000.0", ("leaves", *MARKED_SOLVES)
     report, mass = "pub fn report", "pub fn mass_mark"
-    made = "Report { rows, "
     fixed = " if !%s.fixed_rotation =>"
     for name, behind, old, new, groups in (
         ("solved at the threshold", "fn decided", test, "determinant >= 1000.0", marked),
@@ -231,12 +230,12 @@ def mark_versions():
         ("solve3, invert_matrix by det itself", "fn mark3", "abs_float(det(m))", "det(m)", marked),
         ("solved and fell back exchanged", "fn mark3", "decided(abs_float(det(m)))",
          "match decided(abs_float(det(m))) { Solved => FellBack, _ => Solved }", marked),
-        ("those of the two rows exchanged", report, f"{made}perp, point }}", f"{made}perp: point, point: perp }}", MARKED_SOLVES),
+        ("those of the two rows exchanged", report, "Report { perp, point }", "Report { perp: point, point: perp }", MARKED_SOLVES),
         ("perpendicular, though rotation is fixed", report, fixed % "joint", " =>", MARKED_SOLVES),
         ("perpendicular, frame A's rotation left out", "pub fn perp_axes", "rotate_vector(quat_a, turned)",
          "{ let _ = quat_a; turned }", MARKED_SOLVES),
-        ("point, none where rotation is fixed", report, f"{made}perp, point }}",
-         made + "perp, point: if joint.fixed_rotation { Mark::None } else { point } }", MARKED_SOLVES),
+        ("point, none where rotation is fixed", report, "Report { perp, point }",
+         "Report { perp, point: if joint.fixed_rotation { Mark::None } else { point } }", MARKED_SOLVES),
         ("point, the bodies' turning left out", "pub fn arms", "rotate_vector(states[index as usize].delta_rotation, frame.p)",
          "{ let _ = (index, states); frame.p }", MARKED_SOLVES),
         ("spherical's mass, though not inverted", mass, fixed % "prepared", " =>", PREPARES),
@@ -246,71 +245,9 @@ def mark_versions():
         yield Version(f"marks: {name}", "marks.rs", put(behind, old, new), groups)
     yield Version("marks: a refused prepare has one", "values.rs",
                   put("fn answer(", "true => Mark::None", "true => crate::marks::mass_mark(&joint)"), VALUES)
-    yield Version("marks: a warm start has those of a solve", "stages.rs",
-                  put("pub fn warm_start", "    NO_REPORT\n", "{ let mut worked = report(joint, states); worked.rows = 0; worked }\n"), MARKED_SOLVES)
-
-
-def row_versions():
-    """Row counts by other switches, of other rows, or of what works none."""
-    rows = "pub fn rows"
-    revolute, spherical, weld = (f"JointUnion::{kind}(" for kind in ("Revolute", "Spherical", "Weld"))
-    axes, cone, twist, angular = "            true,", "j.enable_cone_limit", "j.enable_twist_limit", "&[true]"
-    for name, behind, old, new in (
-        ("revolute, the pair of limits as 1", revolute, "j.enable_limit", "false"),
-        ("revolute, a limit where it pushes alone", revolute, "j.enable_limit", "j.enable_limit && j.lower_impulse > 0.0"),
-        ("revolute, the perpendicular axes as 2", revolute, axes, axes + axes),
-        ("revolute, the perpendicular axes left out", revolute, axes, ""),
-        ("revolute, the perpendicular axes by the limit's switch", revolute, axes, "j.enable_limit,"),
-        ("revolute, a motor that is off", revolute, "j.enable_motor", "true"),
-        ("revolute, the motor by the spring's switch", revolute, "j.enable_motor", "j.enable_spring"),
-        ("spherical, the pair of limits as 1", spherical, twist, "false"),
-        ("spherical, one of the pair by the cone's switch", spherical, twist, cone),
-        ("spherical, the cone left out", spherical, cone, "false"),
-        ("spherical, the cone by the twist's switch", spherical, cone, twist),
-        ("spherical, the cone as a pair", spherical, cone, f"{cone}, {cone}"),
-        ("spherical, a spring that is off", spherical, "j.enable_spring", "true"),
-        ("weld, the angular row left out", weld, angular, "&[]"),
-        ("weld, the angular row as its three axes", weld, angular, "&[true; 3]"),
-        ("counted though rotation is fixed", rows, "if joint.fixed_rotation", "if false"),
-        ("the point row left out", rows, "1 + turning", "turning"),
-        ("no point row where rotation is fixed", rows, "1 + turning", "u32::from(!joint.fixed_rotation) + turning"),
-    ):
-        yield Version(f"rows: {name}", "rows.rs", put(behind, old, new), BY_VALUE)
-    yield Version("rows: a point row that fell back left out", "marks.rs",
-                  put("pub fn report", "= rows(joint)", "= rows(joint) - u32::from(matches!(point, FellBack))"), BY_VALUE)
-    made = "let report = report(joint, states);"
-    for name, test, groups in (
-        ("a solve without bias has none", "!use_bias", BY_VALUE),
-        ("none where no body is dynamic", "states.iter().all(|state| state.flags & 0x1000 == 0)", SOLVES),
-    ):
-        yield Version(f"rows: {name}", "stages.rs",
-                      put("pub fn solve", made, f"let mut {made[4:]} if {test} {{ report.rows = 0 }}"), groups)
-    counted = "{ let mut report = NO_REPORT; report.rows = crate::rows::rows(&joint); report }"
-    if_cased = f"(if crate::records::kind_of(&joint).is_some() {counted} else {{ NO_REPORT }})"
-    yield Version("rows: a warm start counts", "stages.rs", put("pub fn warm_start", "    NO_REPORT\n", counted + "\n"), BY_VALUE)
-    yield Version("rows: a refused direct call counts", "direct.rs", put("fn answer(", "NO_REPORT.write", if_cased + ".write"), ("direct",))
-    yield Version("rows: a refused stage by value counts", "values.rs", put("fn answer(", "= NO_REPORT", "= " + if_cased), VALUES)
-
-
-def run_versions():
-    """The rows of a run that is refused, and other sums."""
-    solves = "list.chunks_exact(2).take(place as usize).filter(|call| call[1] > 0)"
-    yield Version("rows: a refused list counts the calls before it", "plain_run.rs",
-                  put("fn run_whole", "rows: 0", f"rows: {solves}.map(|call| crate::rows::rows(&self.joints[usize::from(call[0])])).sum()"),
-                  ("lists",))
-    worked, added = "self.work(call[0], call[1]).rows", "rows += self.work(call[0], call[1]).rows"
-    first = "let first = list.chunks_exact(2).find(|one| one[0] == call[0] && one[1] > 0).map(|one| one.as_ptr());"
-    for name, new in (
-        ("each call counts twice", f"rows += 2 * {worked}"),
-        ("the last call alone", f"rows = {worked}"),
-        ("the first solve alone", f"let worked = {worked}; if rows == 0 {{ rows = worked }}"),
-        ("solves with bias alone", f"rows += {worked} * u32::from(call[1] == 1)"),
-        ("a solve counts 1", f"rows += {worked}.min(1)"),
-        ("a call counts 1", f"{worked}; rows += 1"),
-        ("each slot's first solve alone", f"let worked = {worked}; {first} if first == Some(call.as_ptr()) {{ rows += worked }}"),
-        ("kept in a byte", f"rows = (rows + {worked}) % 256"),
-    ):
-        yield Version(f"rows: a run, {name}", "plain_run.rs", put("fn run_whole", added, new), ("lists",))
+    yield Version("marks: a direct warm start has those of a solve", "direct.rs",
+                  put("fn answer(", "NO_REPORT.write", "(if refusal == 0 { crate::marks::report(&joint, &states) } else { NO_REPORT }).write"),
+                  ("direct",))
 
 
 VERSIONS = [
@@ -382,8 +319,6 @@ VERSIONS = [
     *kept_versions(),
     *angle_versions(),
     *mark_versions(),
-    *row_versions(),
-    *run_versions(),
     *stop_versions(),
     Version("stop code: impulse of zero counts", "values.rs",
             put("fn stop_code", "impulse > 0.0", "impulse >= 0.0"), VALUES),

@@ -7,7 +7,6 @@ use call_list::run_list;
 use records::body::BodyState;
 use records::joint::JointSim;
 use scene::Scene;
-use std::num::wrapping_add_u32;
 
 // The stage of a call: that of the list, or the three in turn over the rounds.
 fn stage_of(stages: u8, round: u8) -> u8 {
@@ -47,15 +46,14 @@ fn sum_scene(scene: Scene) -> u32 {
     sum_gates(joints, states)
 }
 
-// The list again and again, each time on what the run before it left. How many runs were still and the
-// rows of all of them are part of the checksum.
+// The list again and again, each time on what the run before it left. How many runs were still is
+// part of the checksum.
 pub fn run_lists(kind: u8, stages: u8, repeats: u64) -> u32
     requires { repeats < 1000000000 }
 {
     let list = list_of(stages);
     let mut scene = wall(kind);
     let mut still = 0u32;
-    let mut rows = 0u32;
     let mut n = 0u64;
     while n < repeats {
         let run = run_list(scene, &list);
@@ -63,8 +61,7 @@ pub fn run_lists(kind: u8, stages: u8, repeats: u64) -> u32
         if run.still {
             still += 1;
         }
-        rows = wrapping_add_u32(rows, run.rows);
         n += 1;
     }
-    add_word(add_word(sum_scene(scene), still), rows)
+    add_word(sum_scene(scene), still)
 }

@@ -34,13 +34,12 @@ fn is_still(count: u32, before: [BodyState; 32], after: [BodyState; 32]) -> bool
 pub fn run_list(scene: Scene, list: &[u8]) -> Run
     ensures { result ≡ plain_run scene list.now }
 {
-    let checked = check_list(scene, list);
-    if checked.number != 0 {
+    let verdict = check_list(scene, list);
+    if verdict.number != 0 {
         return Run {
-            number: checked.number,
-            place: checked.place,
+            number: verdict.number,
+            place: verdict.place,
             still: false,
-            rows: 0,
             scene,
         };
     }
@@ -52,7 +51,6 @@ pub fn run_list(scene: Scene, list: &[u8]) -> Run
         number: 0,
         place: 0,
         still,
-        rows: checked.rows,
         scene: next,
     }
 }

@@ -1,5 +1,4 @@
 -- The answers of the stages: number 0 with what was done, or number 1 with nothing altered. Place is 0. Definitions only. Assumes nothing.
-use Rattle.std.specs.Prelude.{ℕ}
 use Rattle.math_functions.specs.declared.mark.Mark.{Mark}
 use Rattle.math_functions.specs.Mark.{no_mark}
 use Rattle.records.specs.declared.body.BodyState.{BodyState}
@@ -19,19 +18,19 @@ prepared joint mass_mark = record { number = 0; place = 0; joint = joint; mass_m
 abbrev pub not_prepared : JointSim → Prepared
 not_prepared joint = record { number = 1; place = 0; joint = joint; mass_mark = no_mark }
 
--- C-19: 'Each solve reports the rows it worked'. C-15: 'Each solve's answer passes on the marks of the perpendicular and point rows'
-abbrev pub report : ℕ → Mark → Mark → Report
-report rows perp_mark point_mark = record { rows = rows; perp_mark = perp_mark; point_mark = point_mark }
-
--- what a stage reports that works no row. C-19: 'a warm start or refusal has 0'
-abbrev pub no_report : Report
-no_report = report 0 no_mark no_mark
-
 abbrev pub warm_started : JointSim → Velocities → WarmStarted
-warm_started joint velocities = record { number = 0; place = 0; joint = joint; velocities = velocities; report = no_report }
+warm_started joint velocities = record { number = 0; place = 0; joint = joint; velocities = velocities }
 
 abbrev pub not_warm_started : JointSim → BodyState → BodyState → WarmStarted
-not_warm_started joint state_a state_b = record { number = 1; place = 0; joint = joint; velocities = velocities_of state_a state_b; report = no_report }
+not_warm_started joint state_a state_b = record { number = 1; place = 0; joint = joint; velocities = velocities_of state_a state_b }
+
+-- C-15: 'Each solve's answer passes on the marks of the perpendicular and point rows'
+abbrev pub report : Mark → Mark → Report
+report perp_mark point_mark = record { perp_mark = perp_mark; point_mark = point_mark }
+
+-- what a stage reports that works no row: a warm start, and every refusal
+abbrev pub no_report : Report
+no_report = report no_mark no_mark
 
 abbrev pub solved : JointSim → Velocities → Report → Solved
 solved joint velocities r = record { number = 0; place = 0; joint = joint; velocities = velocities; report = r }

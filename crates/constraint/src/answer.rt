@@ -20,30 +20,26 @@ pub struct Prepared {
     pub mass_mark: Mark,
 }
 
-// What a stage reports of its rows: how many it worked, and the marks of revolute's perpendicular row and
-// of the point row.
-#[derive(Drop)]
-pub struct Report {
-    pub rows: u32,
-    pub perp_mark: Mark,
-    pub point_mark: Mark,
-}
-
-// The report of a stage that worked no row.
-pub const NO_REPORT: Report = Report {
-    rows: 0,
-    perp_mark: Mark::None,
-    point_mark: Mark::None,
-};
-
 #[derive(Drop)]
 pub struct WarmStarted {
     pub number: u32,
     pub place: u32,
     pub joint: JointSim,
     pub velocities: Velocities,
-    pub report: Report,
 }
+
+// What a solve reports of its rows: the marks of revolute's perpendicular row and of the point row.
+#[derive(Drop)]
+pub struct Report {
+    pub perp_mark: Mark,
+    pub point_mark: Mark,
+}
+
+// The report of a stage that worked no row.
+pub const NO_REPORT: Report = Report {
+    perp_mark: Mark::None,
+    point_mark: Mark::None,
+};
 
 #[derive(Drop)]
 pub struct Solved {
@@ -62,7 +58,6 @@ pub fn warm_start_done(joint: JointSim, velocities: Velocities) -> WarmStarted
         place: 0,
         joint,
         velocities,
-        report: NO_REPORT,
     }
 }
 
@@ -74,6 +69,5 @@ pub fn warm_start_refused(joint: JointSim, state_a: BodyState, state_b: BodyStat
         place: 0,
         joint,
         velocities: velocities_of(state_a, state_b),
-        report: NO_REPORT,
     }
 }

@@ -3,7 +3,7 @@ use mathlib.Core.Path.{◌≡◌, refl, sym, ap, ◌∙◌}
 use mathlib.Core.Logic.{inl, inr, ◌≢◌}
 use mathlib.Core.Bool.{Bool, true, false, cond}
 use mathlib.Core.List.{List, [], ◌∷◌}
-use Prim.Native.Nat.{ℕ, zero, suc, ◌+◌, ◌≤◌, ◌<◌}
+use Prim.Native.Nat.{ℕ, zero, suc, ◌≤◌, ◌<◌}
 use native.Mathlib.Omega.{arith}
 use lib.Dec.{eqb}
 use lib.IntN.{ℤ, pos, negsuc}
@@ -24,7 +24,7 @@ use Rattle.scene.specs.declared.Scene.{Scene}
 use Rattle.scene.specs.Scene.{joint_at, state_at, store}
 use Rattle.scene.specs.Calls.{call}
 use Rattle.scene.specs.Plain as Plain
-use Rattle.scene.specs.Plain.{verdict_of, early_cause, verdict, store_both, step, rows_of_calls, plain_run}
+use Rattle.scene.specs.Plain.{verdict_of, early_cause, verdict, store_both, step, plain_run}
 use Rattle.scene.proofs.Accepted.{run_accepted, run_refused}
 use Rattle.direct.specs.declared.call.StageCall.{StageCall}
 use Rattle.direct.specs.Direct.{is_of_kind, cause, Outcome, stage_at, direct_call}
@@ -146,7 +146,7 @@ module _ (s : Scene) (slot stage kind : ℕ) (ok : Callable s slot stage) (of : 
   slot_in : slot < length s.joints
   slot_in = rw ok.whole_joints (omega (arith, ok.slot_counted, ok.few_joints))
 
-  ran : k ≡ 0 → plain_run s (slot ∷ stage ∷ []) ≡ Plain.done s (step (call slot stage) s) (rows_of_calls (call slot stage ∷ []) s)
+  ran : k ≡ 0 → plain_run s (slot ∷ stage ∷ []) ≡ Plain.done s (step (call slot stage) s)
   ran e =
       let f : verdict s (slot ∷ stage ∷ []) ≡ verdict_of 0 0 = its_verdict ∙ rw (eq-eqb k 0 e) in
       run_accepted s (slot ∷ stage ∷ []) (ap (λ v. v.number) f)
@@ -155,9 +155,6 @@ module _ (s : Scene) (slot stage kind : ℕ) (ok : Callable s slot stage) (of : 
   stopped ne =
       let e : verdict s (slot ∷ stage ∷ []) ≡ verdict_of k 0 = its_verdict ∙ rw (ne_eqb k 0 ne) in
       run_refused s (slot ∷ stage ∷ []) (λ z. ne (sym (ap (λ v. v.number) e) ∙ z)) ∙ ap (λ v. Plain.refused v s) e
-
-  alone : (n : ℕ) → n + 0 ≡ n
-  alone n = omega arith
 
   pub same_end : SameEnd s slot stage kind
   unfolding step
@@ -172,8 +169,6 @@ module _ (s : Scene) (slot stage kind : ℕ) (ok : Callable s slot stage) (of : 
           record {
             number = ap (λ x. x.number) r ∙ sym (ap (λ x. x.answer.number) o);
             place = ap (λ x. x.place) r ∙ sym (ap (λ x. x.answer.place) o);
-            rows = ap (λ x. x.rows) r ∙ alone (Plain.stage_at s joint stage).report.rows ∙ ap (λ x. x.report.rows) g
-                ∙ sym (ap (λ x. x.answer.report.rows) o);
             joint =
                 ap (λ x. joint_at x.scene slot) r
                 ∙ get_or-set_same s.joints slot (Plain.stage_at s joint stage).joint unused_joint slot_in
@@ -192,7 +187,6 @@ module _ (s : Scene) (slot stage kind : ℕ) (ok : Callable s slot stage) (of : 
           record {
             number = ap (λ x. x.number) r ∙ same_cause ∙ sym (ap (λ x. x.answer.number) o);
             place = ap (λ x. x.place) r ∙ sym (ap (λ x. x.answer.place) o);
-            rows = ap (λ x. x.rows) r ∙ sym (ap (λ x. x.answer.report.rows) o);
             joint = ap (λ x. joint_at x.scene slot) r ∙ sym (ap (λ x. x.joint) o);
             states = ap (λ x. counted x.scene) r ∙ sym (ap (λ x. x.states) o);
           }

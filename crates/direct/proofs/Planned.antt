@@ -24,9 +24,8 @@ use Rattle.records.specs.Body.{identity_body_state}
 use Rattle.constraint.specs.declared.velocity.Velocities.{Velocities}
 use Rattle.constraint.specs.Answer.{no_report}
 use Rattle.records.specs.Joint.{case_of}
-use Rattle.joint.specs.Stage.{Staged, staged, of_solve, warm_start_joint, stage_joint}
+use Rattle.joint.specs.Stage.{Staged, staged, of_solve, stage_joint}
 use Rattle.joint.specs.Index.{index_a, index_b, index_cause}
-use Rattle.joint.proofs.Rows.{warm_starts_report_nothing}
 use Rattle.joint.proofs.Stages.{warm_start_of, solve_of, warm_start_of_lem, solve_of_lem, warm_start_joint_lem}
 use Rattle.scene.specs.Scene.{state_at, store}
 use Rattle.scene.specs.Plain.{store_both}
@@ -75,9 +74,7 @@ is_kind kind n u = by u (is_of_kind kind u) refl
 module _ (joint : JointSim) (kind : ℕ) (a b : BodyState) (is : (case_of joint.union_ ≡ kind) × (kind < 3)) where
   warm_start_is : staged joint (warm_start_of kind joint a b).velocities no_report ≡ stage_joint joint (warm_start kind).context a b 0
   unfolding stage_joint
-  warm_start_is =
-      ap₂ (λ j v. staged j v no_report) (sym (warm_start_joint_lem joint a b)) (ap (λ x. x.velocities) (warm_start_of_lem kind joint a b is.0 is.1))
-      ∙ ap (staged (warm_start_joint joint a b).joint (warm_start_joint joint a b).velocities) (sym (warm_starts_report_nothing joint a b).any)
+  warm_start_is = ap₂ (λ j v. staged j v no_report) (sym (warm_start_joint_lem joint a b)) (ap (λ x. x.velocities) (warm_start_of_lem kind joint a b is.0 is.1))
 
   solve_is : (context : StepContext) (use_bias : Bool)
       → of_solve (solve_of kind joint context a b use_bias) ≡ stage_joint joint context a b (cond use_bias 1 2)

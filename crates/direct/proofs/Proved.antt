@@ -20,7 +20,6 @@ use Rattle.records.specs.Joint.{case_of}
 use Rattle.constraint.specs.Answer.{no_report}
 use Rattle.joint.specs.Stage.{Staged, solve_joint, stage_joint}
 use Rattle.joint.specs.Index.{index_a, index_b, bad_index}
-use Rattle.joint.proofs.Rows.{solve_rows, warm_starts_report_nothing}
 use Rattle.scene.specs.Scene.{state_at, store}
 use Rattle.scene.specs.Plain.{verdict_of, store_both}
 use Rattle.scene.specs.Claims.{LimitsNonNegative}
@@ -32,7 +31,7 @@ use Rattle.scene.proofs.Accepted.{Says, says_of, says_other, says_index, Answers
 use Rattle.direct.specs.declared.call.StageCall.{StageCall}
 use Rattle.direct.specs.Direct.{is_of_kind, cause, refused, done, stage_at, direct_call, warm_start, solve}
 use Rattle.direct.specs.Claims.{Cause1, tests, Numbers, Acceptance, Range, Refusal, OnlyChanges, Changes, WarmStartKeeps}
-use Rattle.direct.specs.Claims.{PairStored, OneBodyTwice, OneCall, LimitsAfterCall, SolveReports, CallRows, ReportsNothing}
+use Rattle.direct.specs.Claims.{PairStored, OneBodyTwice, OneCall, LimitsAfterCall, SolveReports, NoMarks}
 use Rattle.direct.proofs.Outcomes.{its_cause, by_outcome, number_is, place_is}
 use Rattle.direct.proofs.Stored.{at_b, pair_at}
 use Rattle.direct.proofs.OneCall.{same_end}
@@ -193,7 +192,7 @@ limits_after_call kind context use_bias joint states e free =
     solve_limits_lem joint context (state_at states (index_a u)) (state_at states (index_b u)) (cond use_bias 1 2) (a_solve use_bias) free)
     (λ ne e. absurd (ne e)) e
 
--- ---- what a call reports
+-- ---- marks
 
 solve_report : (joint : JointSim) (context : StepContext) (a b : BodyState) (use_bias : Bool)
     → (stage_joint joint context a b (cond use_bias 1 2)).report ≡ (solve_joint joint context a b use_bias).report
@@ -203,7 +202,7 @@ solve_report joint context a b false = refl
 
 warm_start_report : (joint : JointSim) (context : StepContext) (a b : BodyState) → (stage_joint joint context a b 0).report ≡ no_report
 unfolding stage_joint
-warm_start_report joint context a b = (warm_starts_report_nothing joint a b).any
+warm_start_report joint context a b = refl
 
 pub solve_reports : SolveReports
 solve_reports kind context use_bias joint states e =
@@ -214,11 +213,8 @@ solve_reports kind context use_bias joint states e =
     (λ o. o.answer.number ≡ 0 → o.answer.report ≡ (solve_joint joint context a b use_bias).report)
     (λ z e. solve_report joint context a b use_bias) (λ ne e. absurd (ne e)) e
 
-pub call_rows : CallRows
-call_rows kind context use_bias joint states e = ap (λ r. r.rows) (solve_reports kind context use_bias joint states e) ∙ solve_rows joint context _ _ use_bias
-
-pub reports_nothing : ReportsNothing
-reports_nothing = record {
+pub no_marks : NoMarks
+no_marks = record {
   warm_start_lem = λ kind joint states. by_outcome (warm_start kind) joint states (λ o. o.answer.report ≡ no_report)
       (λ e. warm_start_report joint _ _ _) (λ ne. refl);
   refused = λ call joint states. by_outcome call joint states (λ o. o.answer.number ≢ 0 → o.answer.report ≡ no_report)

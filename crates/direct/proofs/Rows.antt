@@ -165,6 +165,25 @@ pub q_state_b : (y : StatePair) → Is Q y (vals_q y) → Is R y.state_b (vals_s
 unfolding val_s
 q_state_b y is = (LL.owed Tq.the_type Tq'.the_laws y _ is).1.0
 
+-- ---- WarmStarted
+
+abbrev pub Wm : RattleType
+Wm = Tm.the_row
+
+abbrev pub val_m : WarmStarted → Val
+val_m y = vstruct (vcons (vint w32 y.number) (vcons (vint w32 y.place) (vcons (val_j y.joint) (vcons (val_v y.velocities) vnil))))
+
+abbrev pub vals_m : WarmStarted → List Val
+vals_m y = val_m y ∷ []
+
+pub tells_m : Tells Wm (Is Wm) vals_m
+unfolding val_l val_j
+tells_m = LL.tells Tm.the_type Tm'.the_laws
+
+pub m_velocities : (y : WarmStarted) → Is Wm y (vals_m y) → Is Ve y.velocities (vals_v y.velocities)
+unfolding val_l val_j
+m_velocities y is = (LL.owed Tm.the_type Tm'.the_laws y _ is).1.1.1.0
+
 -- ---- Report
 
 abbrev pub Rp : RattleType
@@ -175,27 +194,6 @@ val_r y = LL.val Tr.the_type Tr'.the_laws y
 
 abbrev pub vals_r : Report → List Val
 vals_r y = val_r y ∷ []
-
--- ---- WarmStarted
-
-abbrev pub Wm : RattleType
-Wm = Tm.the_row
-
-abbrev pub val_m : WarmStarted → Val
-val_m y =
-    vstruct (vcons (vint w32 y.number) (vcons (vint w32 y.place) (vcons (val_j y.joint) (vcons (val_v y.velocities)
-    (vcons (val_r y.report) vnil)))))
-
-abbrev pub vals_m : WarmStarted → List Val
-vals_m y = val_m y ∷ []
-
-pub tells_m : Tells Wm (Is Wm) vals_m
-unfolding val_l val_j val_r
-tells_m = LL.tells Tm.the_type Tm'.the_laws
-
-pub m_velocities : (y : WarmStarted) → Is Wm y (vals_m y) → Is Ve y.velocities (vals_v y.velocities)
-unfolding val_l val_j val_r
-m_velocities y is = (LL.owed Tm.the_type Tm'.the_laws y _ is).1.1.1.0
 
 -- ---- Solved
 
@@ -325,7 +323,7 @@ module _ {M : Type 1} {𝓤 : Ura M} (𝓛 : Logic 𝓤) where
     typed_q y is = ((LL.lawful Tq.the_type Tq'.the_laws 𝓛).typed y _ is).0
 
     pub typed_m : (y : WarmStarted) → Is Wm y (vals_m y) → T (has_ty Tm'.mir (val_m y)) × WT (val_m y)
-    unfolding val_l val_j val_r
+    unfolding val_l val_j
     typed_m y is = ((LL.lawful Tm.the_type Tm'.the_laws 𝓛).typed y _ is).0
 
     pub typed_g : (y : Solved) → Is G y (vals_g y) → T (has_ty Tg'.mir (val_g y)) × WT (val_g y)

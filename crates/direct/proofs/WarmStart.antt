@@ -59,7 +59,6 @@ use Rattle.direct.specs.Steps.{positions_of, read_states, write_states}
 use Rattle.direct.specs.Direct.{warm_start, Outcome, refused, direct_call, Leaves}
 use Rattle.records.proofs.joint.JointSim.TheLaws as Tj'
 use Rattle.constraint.proofs.velocity.Velocities.TheLaws as Tv'
-use Rattle.constraint.proofs.answer.Report.TheLaws as Tr'
 use Rattle.constraint.specs.contracts.answer.WarmStarted as Tm
 use Rattle.joint.proofs.store.StatePair.TheLaws as Tq'
 use Rattle.direct.proofs.Answer.TheLaws as Tw'
@@ -277,7 +276,7 @@ module _ {M : Type 1} {𝓤 : Ura M} (𝓛 : Logic 𝓤) (mem : Memory → SProp
 -- ---- at the types themselves
 
 abbrev warmed_fields : Tys
-warmed_fields = tcons (ty_int w32) (tcons (ty_int w32) (tcons Tj'.mir (tcons Tv'.mir (tcons Tr'.mir tnil))))
+warmed_fields = tcons (ty_int w32) (tcons (ty_int w32) (tcons Tj'.mir (tcons Tv'.mir tnil)))
 
 abbrev code : ℕ → Name → Fn
 code k #stage = function Tj'.mir (Tm.the_type).name warmed_fields k #stage

@@ -10,7 +10,6 @@ use Rattle.scene.specs.declared.Scene.{Scene}
 use Rattle.records.specs.Body.{is_dynamic, with_velocities}
 use Rattle.constraint.specs.declared.velocity.Velocities.{Velocities}
 use Rattle.constraint.specs.Answer.{no_report}
-use Rattle.row_count.specs.RowCount.{rows_of}
 use Rattle.joint.specs.Index.{index_a, index_b}
 use Rattle.records.specs.Joint.{case_of}
 use Rattle.joint.specs.Stage.{solve_joint, stage_joint}
@@ -130,12 +129,11 @@ pub record Callable (s : Scene) (slot stage : ℕ) : Type 0 where
 abbrev pub OfKind : ℕ → JointUnion → Type 0
 OfKind kind union = (union ≡ Other) ⊎ (case_of union ≡ kind)
 
--- A direct call on the joint in a slot and the counted bodies, and the run of a list of that one call, have the same number, place and rows, and leave the same
--- joint and states: worked or refused.
+-- A direct call on the joint in a slot and the counted bodies, and the run of a list of that one call, have the same number and place, and leave the same joint
+-- and states: worked or refused.
 pub record SameEnd (s : Scene) (slot stage kind : ℕ) : Type 0 where
   pub number : (plain_run s (slot ∷ stage ∷ [])).number ≡ (direct_call (call_of kind stage s.context) (joint_at s slot) (counted s)).answer.number
   pub place : (plain_run s (slot ∷ stage ∷ [])).place ≡ (direct_call (call_of kind stage s.context) (joint_at s slot) (counted s)).answer.place
-  pub rows : (plain_run s (slot ∷ stage ∷ [])).rows ≡ (direct_call (call_of kind stage s.context) (joint_at s slot) (counted s)).answer.report.rows
   pub joint : joint_at (plain_run s (slot ∷ stage ∷ [])).scene slot ≡ (direct_call (call_of kind stage s.context) (joint_at s slot) (counted s)).joint
   pub states : counted (plain_run s (slot ∷ stage ∷ [])).scene ≡ (direct_call (call_of kind stage s.context) (joint_at s slot) (counted s)).states
 
@@ -151,24 +149,18 @@ LimitsAfterCall = (kind : ℕ) (context : StepContext) (use_bias : Bool) (joint 
     → joint.base.fixed_rotation ≡ false
     → LimitsNonNegative joint.union_ (direct_call (solve kind context use_bias) joint states).joint.union_
 
--- ==== What a call reports: C-19's rows, C-15's marks
+-- ==== C-15's marks
 
--- 'Each solve reports the rows it worked', and 'each solve's answer passes on the marks', direct as by value: an accepted direct solve reports what the solve
--- by value of the joint reports, on the states at the joint's two indices (`SolveRows` and `SolveMarks` of `joint` say what that is).
+-- 'Each solve's answer passes on the marks', direct as by value: an accepted direct solve reports what the solve by value of the joint reports, on the states
+-- at the joint's two indices (`SolveMarks` of `joint` says what that is).
 abbrev pub SolveReports : Type 0
 SolveReports = (kind : ℕ) (context : StepContext) (use_bias : Bool) (joint : JointSim) (states : List BodyState)
     → (direct_call (solve kind context use_bias) joint states).answer.number ≡ 0
     → (direct_call (solve kind context use_bias) joint states).answer.report
     ≡ (solve_joint joint context (state_at states (index_a joint.union_)) (state_at states (index_b joint.union_)) use_bias).report
 
--- So its rows are those that document 01's order names for the joint's switches and fixed rotation, whatever the states.
-abbrev pub CallRows : Type 0
-CallRows = (kind : ℕ) (context : StepContext) (use_bias : Bool) (joint : JointSim) (states : List BodyState)
-    → (direct_call (solve kind context use_bias) joint states).answer.number ≡ 0
-    → (direct_call (solve kind context use_bias) joint states).answer.report.rows ≡ rows_of joint
-
--- 'a warm start or refusal has 0': a warm start, refused or not, works no row, nor does a refused call: 0 rows, and both marks are none.
-pub record ReportsNothing : Type 0 where
+-- A warm start, refused or not, works no row, nor does a refused call: both marks are none.
+pub record NoMarks : Type 0 where
   pub warm_start_lem : (kind : ℕ) (joint : JointSim) (states : List BodyState) → (direct_call (warm_start kind) joint states).answer.report ≡ no_report
   pub refused : (call : StageCall) (joint : JointSim) (states : List BodyState) → (direct_call call joint states).answer.number ≢ 0
       → (direct_call call joint states).answer.report ≡ no_report

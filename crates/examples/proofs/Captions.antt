@@ -51,10 +51,4 @@ shown =
       short_step = refl;
       rest_accepted = refl;
       rest_unchanged = refl;
-      rest_rows = refl;
-      gone_rows = refl;
-      beyond_rows = refl;
-      twice_rows = refl;
-      refused_rows = refl;
-      driven_rows = refl;
     }

@@ -16,10 +16,6 @@ use Rattle.constraint.specs.Rotation as Rotation
 use Rattle.constraint.specs.Angular as Angular
 use Rattle.constraint.specs.Point as Point
 use Rattle.constraint.specs.Prepare as Prepare
-use Rattle.row_count.specs.Rows as Count
-use Rattle.row_count.specs.Revolute as Revolute-count
-use Rattle.row_count.specs.Spherical as Spherical-count
-use Rattle.row_count.specs.Weld as Weld-count
 use Rattle.revolute.specs.Revolute as R
 use Rattle.spherical.specs.Spherical as S
 use Rattle.weld.specs.Weld as W
@@ -50,6 +46,5 @@ unfolding Option-elim Ieee.of_bits Ieee.neg Ieee.add Ieee.sub Ieee.mul Ieee.div 
     S.prepare_spherical S.warm_start_spherical S.solve_spherical S.prepare_spherical_joint S.warm_start_spherical_joint S.solve_spherical_joint
     W.row_spring W.keep_impulses W.prepare_weld W.warm_start_weld W.is_soft W.angular_bias W.weld_angular_row W.point_row W.joint_rotation W.solve_angular W.solve_bias
     W.solve_point W.solve_weld W.prepare_weld_joint W.warm_start_weld_joint W.solve_weld_joint
-    Count.rows_if Count.sum_rows Revolute-count.count_rows Spherical-count.count_rows Weld-count.count_rows
     Stage.warm_start_as Stage.solve_as Stage.stage_joint Scene.store
 computed = tt

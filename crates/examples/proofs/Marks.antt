@@ -15,7 +15,6 @@ shown_marks =
       flat_fell_back = refl;
       flat_impulse = refl;
       flat_speeds = (refl, refl);
-      flat_rows = refl;
       pushed_fell_back = refl;
       pushed_impulse = refl;
       let_go_fell_back = refl;

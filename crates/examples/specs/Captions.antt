@@ -42,9 +42,6 @@ warm_then_solve = 0 ∷ 0 ∷ 0 ∷ 2 ∷ []
 abbrev solve_then_warm : List ℕ
 solve_then_warm = 0 ∷ 2 ∷ 0 ∷ 0 ∷ []
 
-abbrev solve_twice : List ℕ
-solve_twice = 0 ∷ 2 ∷ 0 ∷ 2 ∷ []
-
 abbrev half_second : StepContext
 half_second = context_with half two true
 
@@ -244,16 +241,3 @@ pub record Shown : Type 0 where
   -- 'a joint that comes back unchanged was refused': blocks at rest
   pub rest_accepted : (plain_run (blocks (moving zero) (moving zero)) solve).number ≡ 0
   pub rest_unchanged : (plain_run (blocks (moving zero) (moving zero)) solve).scene ≡ blocks (moving zero) (moving zero)
-  -- 'rows were worked, so something changed': those blocks at rest. Their rotation is fixed, so that a solve works the point row alone
-  pub rest_rows : (plain_run (blocks (moving zero) (moving zero)) solve).rows ≡ 1
-  -- 'no row was worked, so nothing changed': the warm start by which the speeds went from 1 and 1 to 2 and 0 (`gone`)
-  pub gone_rows : (plain_run solved warm).rows ≡ 0
-  -- 'every row that is worked pushes': the door that swings back from beyond its stop is not pushed (`beyond`), and its limit counts 2, the perpendicular axes
-  -- 1, the point row 1
-  pub beyond_rows : (plain_run (door quarter one zero one) solve).rows ≡ 4
-  -- 'the number is how many joints were worked': one joint, solved twice
-  pub twice_rows : (plain_run (blocks (moving zero) (moving two)) solve_twice).rows ≡ 2
-  -- 'of a list with a mistake the rows up to it are counted'
-  pub refused_rows : (plain_run (chain 0x1000) (0 ∷ 2 ∷ 5 ∷ 2 ∷ [])).rows ≡ 0
-  -- 'each kind of joint has its own number': a hinge with its motor on and its limit off has 3, and the one above has 4
-  pub driven_rows : (plain_run (driven half_second) solve).rows ≡ 3

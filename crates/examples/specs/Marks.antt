@@ -19,6 +19,7 @@ use Rattle.records.specs.Base.{built, settings_with, nothing_made}
 use Rattle.records.specs.Spherical.{default_spherical}
 use Rattle.records.specs.Weld.{default_weld}
 use Rattle.records.specs.Joint.{no_angles, joint_sim}
+use Rattle.constraint.specs.Answer.{report}
 use Rattle.revolute.specs.Revolute.{prepare_revolute_joint}
 use Rattle.spherical.specs.Spherical.{prepare_spherical_joint}
 use Rattle.weld.specs.Weld.{prepare_weld_joint}
@@ -96,11 +97,8 @@ impulse_x r = linear_impulse_x r.joint.union_
 abbrev speed_x : Outcome → ℕ → Float
 speed_x r n = (state_at r.states (pos n)).linear_velocity.x
 
-abbrev both_marks : Outcome → Mark × Mark
-both_marks r = (r.answer.report.perp_mark, r.answer.report.point_mark)
-
 abbrev Marks : Outcome → Mark → Mark → Type 0
-Marks r perp point = both_marks r ≡ (perp, point)
+Marks r perp point = r.answer.report ≡ report perp point
 
 abbrev apart_x : JointUnion → Float
 apart_x (Revolute j) = nan
@@ -150,8 +148,6 @@ pub record ShownMarks : Type 0 where
   pub flat_fell_back : Marks flat None FellBack
   pub flat_impulse : impulse_x flat ≡ zero
   pub flat_speeds : (speed_x flat 0 ≡ zero) × (speed_x flat 1 ≡ two)
-  -- C-19: 'a row that fell back is not counted': rotation is fixed, and the point row is counted
-  pub flat_rows : flat.answer.report.rows ≡ 1
   -- 'fell back means that the impulse is zero': one of 1 that was stored stays
   pub pushed_fell_back : Marks (flat_pushed false) None FellBack
   pub pushed_impulse : impulse_x (flat_pushed false) ≡ one

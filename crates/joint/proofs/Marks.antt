@@ -28,8 +28,6 @@ use Rattle.constraint.specs.Answer.{no_report}
 use Rattle.constraint.specs.Claims.{point_matrix}
 use Rattle.constraint.specs.Prepare.{inertia_det}
 use Rattle.constraint.proofs.Facts.{always}
-use Rattle.row_count.specs.Revolute as Revolute-count
-use Rattle.row_count.specs.Spherical as Spherical-count
 use Rattle.revolute.specs.Revolute as R
 use Rattle.revolute.specs.Revolute.{prepare_revolute_joint, solve_revolute_joint}
 use Rattle.revolute.specs.Claims.{perp_matrix}
@@ -40,8 +38,8 @@ use Rattle.spherical.proofs.Marks as Spherical-marks
 use Rattle.weld.proofs.Marks as Weld-marks
 use Rattle.joint.specs.Prepare.{prepare_as}
 use Rattle.joint.specs.Stage.{solve_as}
-use Rattle.joint.specs.Claims.{union_with_indices, inertia_sum, mass_of, SolveMarks, PrepareMark, PrepareFellBack, RefusalsReportNothing}
-use Rattle.joint.specs.Claims.{ReportReads, ReportWithoutIndicesOrFlags, PrepareMarkReads}
+use Rattle.joint.specs.Claims.{union_with_indices, inertia_sum, mass_of, SolveMarks, PrepareMark, PrepareFellBack, RefusalsHaveNoMarks}
+use Rattle.joint.specs.Claims.{MarksRead, MarksWithoutIndicesOrFlags, PrepareMarkReads}
 
 -- ---- what each mark says
 
@@ -50,15 +48,15 @@ unfolding solve_as solve_revolute_joint solve_spherical_joint solve_weld_joint O
 solve_marks joint context a b use_bias =
     let base = joint.base in
     record {
-      revolute = λ r e. rw (e, Revolute-marks.solve_report base r a b context.h context.inv_h use_bias)
+      revolute = λ r e. rw (e, Revolute-marks.solve_marks base r a b context.h context.inv_h use_bias)
           (record {
             perp = worked_says (not base.fixed_rotation) (passes2 (perp_matrix base r a b)) (solve2_mark (perp_matrix base r a b))
                 (marks_say.solve2 (perp_matrix base r a b));
             point = marks_say.solve3 (point_matrix base r.frame_a r.frame_b a b);
           });
-      spherical = λ r e. rw (e, Spherical-marks.solve_report base r a b context.h context.inv_h use_bias)
+      spherical = λ r e. rw (e, Spherical-marks.solve_marks base r a b context.h context.inv_h use_bias)
           (record { no_perp = refl; point = marks_say.solve3 (point_matrix base r.frame_a r.frame_b a b) });
-      weld = λ w e. rw (e, Weld-marks.solve_report base w a b use_bias)
+      weld = λ w e. rw (e, Weld-marks.solve_marks base w a b use_bias)
           (record { no_perp = refl; point = marks_say.solve3 (point_matrix base w.frame_a w.frame_b a b) });
       refused = λ e. rw e;
     }
@@ -104,9 +102,9 @@ prepare_refusal : {K : Type 0} (found : Option K) (refusal : Prepared) (work : K
 prepare_refusal found refusal work is done =
     always (λ (r : Prepared). r.number ≢ 0 → r.mass_mark ≡ no_mark) found refusal work (λ ne. is) (λ k ne. absurd (ne (done k)))
 
-pub refusals_report_nothing : RefusalsReportNothing
+pub refusals_have_no_marks : RefusalsHaveNoMarks
 unfolding prepare_revolute_joint prepare_spherical_joint prepare_weld_joint solve_revolute_joint solve_spherical_joint solve_weld_joint
-refusals_report_nothing =
+refusals_have_no_marks =
     record {
       solve = λ joint context a b use_bias. record {
         revolute = solve_refusal (as_revolute joint.union_) _ _ refl (λ k. refl);
@@ -127,30 +125,30 @@ module _ (base : JointBase) (angles : LimitAngles) (x y : ℤ) (c d : StepContex
   solve_reads : (u : JointUnion)
       → let v = union_with_indices u x y in
       (solve_as v (joint_sim base v angles) c a b use_bias).report ≡ (solve_as u (joint_sim base u angles) d a' b' use_bias').report
-  unfolding solve_as solve_revolute_joint solve_spherical_joint solve_weld_joint Option-elim R.joint_rotation Revolute-count.count_rows Spherical-count.count_rows
+  unfolding solve_as solve_revolute_joint solve_spherical_joint solve_weld_joint Option-elim R.joint_rotation
   solve_reads (Revolute r) =
       rw (
-        Revolute-marks.solve_report base _ a b c.h c.inv_h use_bias,
-        Revolute-marks.solve_report base r a' b' d.h d.inv_h use_bias',
+        Revolute-marks.solve_marks base _ a b c.h c.inv_h use_bias,
+        Revolute-marks.solve_marks base r a' b' d.h d.inv_h use_bias',
         same-a,
         same-b,
       )
   solve_reads (Spherical r) =
       rw (
-        Spherical-marks.solve_report base _ a b c.h c.inv_h use_bias,
-        Spherical-marks.solve_report base r a' b' d.h d.inv_h use_bias',
+        Spherical-marks.solve_marks base _ a b c.h c.inv_h use_bias,
+        Spherical-marks.solve_marks base r a' b' d.h d.inv_h use_bias',
         same-a,
         same-b,
       )
-  solve_reads (Weld w) = rw (Weld-marks.solve_report base _ a b use_bias, Weld-marks.solve_report base w a' b' use_bias', same-a, same-b)
+  solve_reads (Weld w) = rw (Weld-marks.solve_marks base _ a b use_bias, Weld-marks.solve_marks base w a' b' use_bias', same-a, same-b)
   solve_reads Other = refl
 
-pub report_reads : ReportReads
-report_reads joint x y c d a b a' b' use_bias use_bias' same-a same-b =
+pub marks_read : MarksRead
+marks_read joint x y c d a b a' b' use_bias use_bias' same-a same-b =
     solve_reads joint.base joint.angles x y c d a b a' b' use_bias use_bias' same-a same-b joint.union_
 
-pub report_without_indices_or_flags : ReportWithoutIndicesOrFlags
-report_without_indices_or_flags joint context a b use_bias x y f g = report_reads joint x y context context _ _ a b use_bias use_bias refl refl
+pub marks_without_indices_or_flags : MarksWithoutIndicesOrFlags
+marks_without_indices_or_flags joint context a b use_bias x y f g = marks_read joint x y context context _ _ a b use_bias use_bias refl refl
 
 -- prepare's mark, by the joint's case
 abbrev mark_of_case : ℕ → BodyRecord → BodyRecord → Mark

@@ -1,6 +1,6 @@
--- What holds of the two angles that a joint of any kind keeps, of the code of one that was prepared or warm started, of prepare, of the marks of a solve and of
--- prepare, and of the rows that a stage reports, in the words of document 01, of C-11, C-15 and C-19. Statements only: each is proved in proofs/Angles.antt,
--- proofs/Prepares.antt, proofs/Marks.antt or proofs/Rows.antt, under the same name in small letters.
+-- What holds of the two angles that a joint of any kind keeps, of the code of one that was prepared or warm started, of prepare, and of the marks of a solve
+-- and of prepare, in the words of document 01, of C-11 and of C-15. Statements only: each is proved in proofs/Angles.antt, proofs/Prepares.antt or
+-- proofs/Marks.antt, under the same name in small letters.
 -- Assumes nothing.
 use Rattle.std.specs.Prelude.{◌≡◌, ◌≢◌, ◌↔◌, Bool, true, false, not, ℕ, ◌≤◌, Float, ℤ}
 use Rattle.std.proofs.Math.Option.{Option, none, some}
@@ -34,7 +34,6 @@ use Rattle.constraint.specs.Answer.{no_report}
 use Rattle.constraint.specs.Claims.{point_matrix}
 use Rattle.constraint.specs.Prepare.{inertia_det}
 use Rattle.constraint.specs.Angular.{is_worked}
-use Rattle.row_count.specs.RowCount.{rows_of}
 use Rattle.revolute.specs.Revolute as R
 use Rattle.revolute.specs.Claims.{perp_matrix}
 use Rattle.spherical.specs.Spherical as S
@@ -154,8 +153,7 @@ PrepareFellBack = (joint : JointSim) (context : StepContext) (body_a body_b : Bo
     → (prepare_joint joint context body_a body_b).mass_mark ≡ FellBack
     → mass_of (prepare_joint joint context body_a body_b).joint.union_ ≡ some mat3_zero
 
--- A refusal by value has none in all, also where the joint is of another kind than the one called. (`no_report` has 0
--- rows too: C-19's 'a warm start or refusal has 0'.)
+-- A refusal by value has none in all, also where the joint is of another kind than the one called.
 pub record RefusedSolve (joint : JointSim) (context : StepContext) (a b : BodyState) (use_bias : Bool) : Type 0 where
   pub revolute : (R.solve_revolute_joint joint context a b use_bias).number ≢ 0 → (R.solve_revolute_joint joint context a b use_bias).report ≡ no_report
   pub spherical : (S.solve_spherical_joint joint context a b use_bias).number ≢ 0 → (S.solve_spherical_joint joint context a b use_bias).report ≡ no_report
@@ -166,7 +164,7 @@ pub record RefusedPrepare (joint : JointSim) (context : StepContext) (a b : Body
   pub spherical : (S.prepare_spherical_joint joint context a b).number ≢ 0 → (S.prepare_spherical_joint joint context a b).mass_mark ≡ no_mark
   pub weld : (W.prepare_weld_joint joint context a b).number ≢ 0 → (W.prepare_weld_joint joint context a b).mass_mark ≡ no_mark
 
-pub record RefusalsReportNothing : Type 0 where
+pub record RefusalsHaveNoMarks : Type 0 where
   pub solve : (joint : JointSim) (context : StepContext) (a b : BodyState) (use_bias : Bool) → RefusedSolve joint context a b use_bias
   pub prepare : (joint : JointSim) (context : StepContext) (a b : BodyRecord) → RefusedPrepare joint context a b
 
@@ -180,17 +178,16 @@ union_with_indices Other x y = Other
 abbrev pub with_indices : JointSim → ℤ → ℤ → JointSim
 with_indices joint x y = joint_sim joint.base (union_with_indices joint.union_ x y) joint.angles
 
--- Of the two states a solve's report, its rows and its marks, reads the delta rotations alone, nothing of the step, nor whether the call has bias, and of the
--- joint not its indices.
-abbrev pub ReportReads : Type 0
-ReportReads = (joint : JointSim) (x y : ℤ) (c d : StepContext) (a b a' b' : BodyState) (use_bias use_bias' : Bool)
+-- Of the two states a solve's marks read the delta rotations alone, nothing of the step, nor whether the call has bias, and of the joint not its indices.
+abbrev pub MarksRead : Type 0
+MarksRead = (joint : JointSim) (x y : ℤ) (c d : StepContext) (a b a' b' : BodyState) (use_bias use_bias' : Bool)
     → a.delta_rotation ≡ a'.delta_rotation
     → b.delta_rotation ≡ b'.delta_rotation
     → (solve_joint (with_indices joint x y) c a b use_bias).report ≡ (solve_joint joint d a' b' use_bias').report
 
--- So it depends on no body index and on no flag.
-abbrev pub ReportWithoutIndicesOrFlags : Type 0
-ReportWithoutIndicesOrFlags = (joint : JointSim) (context : StepContext) (a b : BodyState) (use_bias : Bool) (x y : ℤ) (f g : ℕ)
+-- So they depend on no body index and on no flag.
+abbrev pub MarksWithoutIndicesOrFlags : Type 0
+MarksWithoutIndicesOrFlags = (joint : JointSim) (context : StepContext) (a b : BodyState) (use_bias : Bool) (x y : ℤ) (f g : ℕ)
     → (solve_joint (with_indices joint x y) context (with_flags a f) (with_flags b g) use_bias).report ≡ (solve_joint joint context a b use_bias).report
 
 -- Of the two bodies prepare's mark reads the inverse inertias alone, so neither set nor local index; nothing of the step; and of the joint its case alone, so
@@ -201,30 +198,3 @@ PrepareMarkReads = (joint joint' : JointSim) (c d : StepContext) (body_a body_b 
     → body_a.inv_inertia_world ≡ body_a'.inv_inertia_world
     → body_b.inv_inertia_world ≡ body_b'.inv_inertia_world
     → (prepare_joint joint c body_a body_b).mass_mark ≡ (prepare_joint joint' d body_a' body_b').mass_mark
-
--- ==== C-19's rows
-
--- 'Each solve reports the rows it worked'. 'The number equals the rows that document 01's order names for the joint's switches and fixed rotation': that is
--- what `rows_of` is (`RowsNamed` of `row_count`), and it is at most 6, or 2 for a weld, and at least 1 (`RowsBounded`). So it depends neither on the states, nor
--- on the step, nor on bias. The empty case is refused, and has 0.
-abbrev pub SolveRows : Type 0
-SolveRows = (joint : JointSim) (context : StepContext) (a b : BodyState) (use_bias : Bool) → (solve_joint joint context a b use_bias).report.rows ≡ rows_of joint
-
--- the solve of each kind, on a joint of that kind; on any other joint it is refused, and has 0 (`RefusedSolve`)
-pub record KindSolves (joint : JointSim) (context : StepContext) (a b : BodyState) (use_bias : Bool) : Type 0 where
-  pub revolute : (r : RevoluteJoint) → joint.union_ ≡ Revolute r → (R.solve_revolute_joint joint context a b use_bias).report.rows ≡ rows_of joint
-  pub spherical : (r : SphericalJoint) → joint.union_ ≡ Spherical r → (S.solve_spherical_joint joint context a b use_bias).report.rows ≡ rows_of joint
-  pub weld : (w : WeldJoint) → joint.union_ ≡ Weld w → (W.solve_weld_joint joint context a b use_bias).report.rows ≡ rows_of joint
-
-abbrev pub KindSolveRows : Type 0
-KindSolveRows = (joint : JointSim) (context : StepContext) (a b : BodyState) (use_bias : Bool) → KindSolves joint context a b use_bias
-
--- 'a warm start or refusal has 0': a warm start reports no row and no mark, refused or not, whatever the joint
-pub record WarmStartReports (joint : JointSim) (a b : BodyState) : Type 0 where
-  pub revolute : (R.warm_start_revolute_joint joint a b).report ≡ no_report
-  pub spherical : (S.warm_start_spherical_joint joint a b).report ≡ no_report
-  pub weld : (W.warm_start_weld_joint joint a b).report ≡ no_report
-  pub any : (warm_start_joint joint a b).report ≡ no_report
-
-abbrev pub WarmStartsReportNothing : Type 0
-WarmStartsReportNothing = (joint : JointSim) (a b : BodyState) → WarmStartReports joint a b

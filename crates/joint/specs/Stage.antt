@@ -9,7 +9,7 @@ use Rattle.constraint.specs.declared.velocity.Velocities.{Velocities}
 use Rattle.constraint.specs.declared.answer.Report.{Report}
 use Rattle.constraint.specs.declared.answer.WarmStarted.{WarmStarted}
 use Rattle.constraint.specs.declared.answer.Solved.{Solved}
-use Rattle.constraint.specs.Answer.{not_warm_started, not_solved}
+use Rattle.constraint.specs.Answer.{no_report, not_warm_started, not_solved}
 use Rattle.revolute.specs.Revolute.{warm_start_revolute_joint, solve_revolute_joint}
 use Rattle.spherical.specs.Spherical.{warm_start_spherical_joint, solve_spherical_joint}
 use Rattle.weld.specs.Weld.{warm_start_weld_joint, solve_weld_joint}
@@ -42,8 +42,9 @@ pub record Staged : Type 0 where
 abbrev pub staged : JointSim → Velocities → Report → Staged
 staged joint velocities r = record { joint = joint; velocities = velocities; report = r }
 
+-- a warm start works no row
 abbrev pub of_warm_start : WarmStarted → Staged
-of_warm_start r = staged r.joint r.velocities r.report
+of_warm_start r = staged r.joint r.velocities no_report
 
 abbrev pub of_solve : Solved → Staged
 of_solve r = staged r.joint r.velocities r.report

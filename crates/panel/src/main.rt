@@ -1,6 +1,6 @@
 // What a guide's panel shows. A door on its hinge, a hip in its socket and a strut welded to its pier
-// stand in one scene; their joints are prepared, a list of calls is run, and velocities, pushes, stops,
-// still and rows are printed. Then a wall of gates is worked in two orders, with the same lines.
+// stand in one scene; their joints are prepared, a list of calls is run, and velocities, pushes, stops
+// and still are printed. Then a wall of gates is worked in two orders, with the same lines.
 mod print;
 mod wall;
 
@@ -56,18 +56,16 @@ fn build() -> Scene {
 }
 
 // One line for what the run answers.
-fn print_answer(number: u32, place: u32, still: bool, rows: u32) {
+fn print_answer(number: u32, place: u32, still: bool) {
     io::write_all(STDOUT_FILENO, b"number ");
     io::print_decimal(STDOUT_FILENO, number as u64);
     io::write_all(STDOUT_FILENO, b", place ");
     io::print_decimal(STDOUT_FILENO, place as u64);
     if still {
-        io::write_all(STDOUT_FILENO, b", still, worked ");
+        io::write_all(STDOUT_FILENO, b", still\n");
     } else {
-        io::write_all(STDOUT_FILENO, b", not still, worked ");
+        io::write_all(STDOUT_FILENO, b", not still\n");
     }
-    io::print_decimal(STDOUT_FILENO, rows as u64);
-    io::write_all(STDOUT_FILENO, b" rows\n");
 }
 
 // The first four bodies, a line for each.
@@ -98,7 +96,7 @@ fn print_scene(scene: Scene) {
 // What a run of the list answers and leaves.
 pub fn print_run(scene: Scene, list: &[u8]) {
     let run = run_list(scene, list);
-    print_answer(run.number, run.place, run.still, run.rows);
+    print_answer(run.number, run.place, run.still);
     print_scene(run.scene);
 }
 

@@ -85,9 +85,8 @@ pub fn run_cases(block: &[u8]) -> Block {
         if size > block.len() - at {
             return cut_at(at, size, counts);
         }
-        let next = at + size;
         counts = one_more(counts, agrees_at(block, at, header, size));
-        at = next;
+        at += size;
     }
     Block { used: at, counts }
 }

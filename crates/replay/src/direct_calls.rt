@@ -2,13 +2,13 @@
 //
 // The inputs are the joint after the number of its case, for a solve the context and the switch, then
 // how many states are lent, at most 40, and these. The answer is number, place, the joint, the states and
-// the report. As in stages.rt, what was read is compared with the words that it was read from too.
+// the marks. As in stages.rt, what was read is compared with the words that it was read from too.
 use crate::agreement::{Agreement, if_also, nothing_apart};
 use crate::compare::{has_words, is_switch, same_word};
 use crate::joint_words::{cased_joint, is_cased_joint, same_joint, words_of};
 use crate::lent_words::{same_states, states_of};
+use crate::mark_words::{REPORT_WORDS, with_report};
 use crate::record_words::{CONTEXT_WORDS, context, same_context, words_of_states};
-use crate::report_words::{REPORT_WORDS, with_report};
 use crate::words::{plus, switch, word, words_from};
 use lent_calls::{
     Lent, lend_solve_revolute_joint, lend_solve_spherical_joint, lend_solve_weld_joint,
@@ -49,7 +49,7 @@ fn solve(
 }
 
 // Whether the words after the states are the answer: number, place, the joint of the case, the states,
-// and the report.
+// and the marks.
 fn same_outcome(case: u32, rest: &[u8], count: u32, lent: Lent) -> Agreement {
     let p = words_from(rest, words_of_states(count));
     let answer = lent.answer;
@@ -61,8 +61,8 @@ fn same_outcome(case: u32, rest: &[u8], count: u32, lent: Lent) -> Agreement {
             & same_states(words_from(p, states_after), states, count as usize),
         same_joint(case, words_from(p, 2), lent.joint),
     );
-    let report = plus(states_after, words_of_states(count));
-    with_report(same, p, report, answer.report)
+    let marks = plus(states_after, words_of_states(count));
+    with_report(same, p, marks, answer.report)
 }
 
 // Whether a case is as long as its parts: `before` words up to the states, and the answer.

@@ -3,14 +3,14 @@
 // no record. Any other number reads as 3, which comparing tells from it.
 ghost use Rattle.std.specs.Prelude.{◌≤◌};
 
-use crate::agreement::{Agreement, is_all, nothing_apart};
+use crate::agreement::{Agreement, is_all, one_unless};
 use crate::compare::same_float;
 use crate::record_words::{BASE_WORDS, base, same_base};
-use crate::tally::{add, one};
 use crate::words::{float, word, words_from};
 use crate::{revolute_words, spherical_words, weld_words};
 use joint::index::{Indices, indices_of};
 use records::joint::{JointSim, JointUnion, LimitAngles, joint_sim};
+use std::num::wrapping_add_u64;
 
 // The number of the empty case.
 pub const OTHER: u32 = 3;
@@ -71,12 +71,16 @@ pub fn indices(case: u32, p: &[u8]) -> Indices {
 
 // A part of an answer that has two angles, whose words are these.
 pub fn with_angles(same: bool, p: &[u8], angles: LimitAngles) -> Agreement {
-    let mut a = nothing_apart(same);
-    a.angles = add(
-        one(same_float(p, 0, angles.twist)),
-        one(same_float(p, 1, angles.swing)),
-    );
-    a
+    Agreement {
+        same,
+        angles: 2,
+        angles_differing: wrapping_add_u64(
+            one_unless(same_float(p, 0, angles.twist)),
+            one_unless(same_float(p, 1, angles.swing)),
+        ),
+        marks: 0,
+        marks_differing: 0,
+    }
 }
 
 // Whether a joint is of this case, and the words are its, the angles left aside.

@@ -2,14 +2,13 @@
 //
 // The inputs are the scene's two counts, how many joints and states are given, how many bytes the
 // list has, the context, the joints, the states, and the list, four bytes to a word. The answer is
-// number, place, still, the rows, the two counts, the context, the joints and the states. As in
-// stages.rt, what was read is compared with the words that it was read from too.
+// number, place, still, the two counts, the context, the joints and the states. As in stages.rt,
+// what was read is compared with the words that it was read from too.
 ghost use Rattle.std.specs.Prelude.{◌≤◌};
 
 use crate::agreement::{Agreement, if_also, is_all, nothing_apart};
 use crate::compare::{has_words, same_switch, same_word};
 use crate::record_words::{CONTEXT_WORDS, STATE_WORDS, context, same_context};
-use crate::report_words::with_rows;
 use crate::scene_words::{
     after_joints, joints_of, same_joints, same_states, states_of, words_of_joints,
 };
@@ -17,21 +16,19 @@ use crate::words::{plus, word, words_from};
 use call_list::run_list;
 use scene::{Run, Scene};
 
-// How many words stand before the context, in the inputs and in the answer.
-const HEAD_WORDS: usize = 5;
-
-const ANSWER_WORDS: usize = 6;
+// How many words stand before the joints, in the inputs and in the answer.
+const HEAD_WORDS: usize = 5 + CONTEXT_WORDS;
 
 fn scene_of(p: &[u8], joints: usize, states: usize) -> Scene
     requires { (joints ≤ 32) × (states ≤ 32) }
 {
-    let rest = words_from(p, HEAD_WORDS + CONTEXT_WORDS);
+    let rest = words_from(p, HEAD_WORDS);
     Scene {
         joints: joints_of(rest, joints),
         bodies: states_of(after_joints(rest, joints), states),
         joint_count: word(p, 0),
         body_count: word(p, 1),
-        context: context(words_from(p, HEAD_WORDS)),
+        context: context(words_from(p, 5)),
     }
 }
 
@@ -59,7 +56,7 @@ fn is_scene(p: &[u8], joints: usize, states: usize) -> bool
     requires { (joints ≤ 32) × (states ≤ 32) }
 {
     is_all(same_scene(
-        words_from(p, HEAD_WORDS),
+        words_from(p, 5),
         joints,
         states,
         scene_of(p, joints, states),
@@ -81,14 +78,12 @@ fn same_answer(p: &[u8], number: u32, place: u32, still: bool) -> bool {
 
 // Whether the words are those of what a run answers.
 fn same_run(p: &[u8], joints: usize, states: usize, run: Run) -> Agreement {
-    let rows = run.rows;
-    let same = if_also(
+    if_also(
         same_answer(p, run.number, run.place, run.still)
-            & same_word(p, 4, run.scene.joint_count)
-            & same_word(p, 5, run.scene.body_count),
-        same_scene(words_from(p, ANSWER_WORDS), joints, states, run.scene),
-    );
-    with_rows(same, p, 3, rows)
+            & same_word(p, 3, run.scene.joint_count)
+            & same_word(p, 4, run.scene.body_count),
+        same_scene(words_from(p, 5), joints, states, run.scene),
+    )
 }
 
 // Whether the list runs on the scene of the inputs as the answer says.
@@ -107,15 +102,16 @@ fn runs_to(p: &[u8], joints: usize, states: usize, list: &[u8], answer: &[u8]) -
 fn agrees_run(p: &[u8], joints: usize, states: usize, bytes: usize) -> Agreement
     requires { (joints ≤ 32) × (states ≤ 32) }
 {
-    let before = words_from(p, HEAD_WORDS + CONTEXT_WORDS);
+    let before = words_from(p, HEAD_WORDS);
     let words = plus(words_of_joints(before, joints), states * STATE_WORDS);
     let list = words_from(before, words);
     let list_words = bytes / 4 + (bytes % 4 + 3) / 4;
     let answer = words_from(list, list_words);
-    let heads = HEAD_WORDS + ANSWER_WORDS + 2 * CONTEXT_WORDS;
     if_also(
-        has_words(p, plus(plus(heads, plus(words, words)), list_words))
-            & is_scene(p, joints, states),
+        has_words(
+            p,
+            plus(plus(2 * HEAD_WORDS, plus(words, words)), list_words),
+        ) & is_scene(p, joints, states),
         runs_to(p, joints, states, first_bytes(list, bytes), answer),
     )
 }

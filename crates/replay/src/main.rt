@@ -1,7 +1,7 @@
 // Runs the test cases of standard input, then those of each file that the arguments name, and prints
 // how many there are, and in how many of them the library's answer is not the recorded one, the stored
-// angles, the marks and the numbers of rows left aside; then how many stored angles were compared, and how
-// many of them differ; then the same of the marks, and of the numbers of rows.
+// angles and the marks left aside; then how many stored angles were compared, and how many of them differ;
+// then the same of the marks.
 mod agreement;
 mod cases;
 mod compare;
@@ -11,10 +11,10 @@ mod internal;
 mod joint_words;
 mod lent_words;
 mod lists;
+mod mark_words;
 mod matrix;
 mod quat;
 mod record_words;
-mod report_words;
 mod revolute_words;
 mod scalar;
 mod scene_words;
@@ -23,7 +23,6 @@ mod spherical_words;
 mod stage_calls;
 mod stages;
 mod stop_codes;
-mod tally;
 mod transform;
 mod values;
 mod vector;
@@ -35,7 +34,6 @@ ghost use Rattle.std.specs.Prelude.{◌≤◌, length};
 use cases::run_cases;
 use counts::{Counts, no_cases, one_not_run, sum};
 use libc::{STDIN_FILENO, STDOUT_FILENO};
-use tally::Tally;
 
 // What the cases came to, and how far the input has been.
 #[derive(Drop)]
@@ -164,18 +162,17 @@ fn replay_files(buf: &mut [u8], before: State) -> State {
     s
 }
 
-fn print_line(t: Tally) {
-    io::print_decimal(STDOUT_FILENO, t.compared);
+fn print_line(run: u64, differing: u64) {
+    io::print_decimal(STDOUT_FILENO, run);
     io::write_all(STDOUT_FILENO, b" ");
-    io::print_decimal(STDOUT_FILENO, t.differing);
+    io::print_decimal(STDOUT_FILENO, differing);
     io::write_all(STDOUT_FILENO, b"\n");
 }
 
 fn print_counts(c: Counts) {
-    print_line(c.cases);
-    print_line(c.angles);
-    print_line(c.marks);
-    print_line(c.rows);
+    print_line(c.run, c.differing);
+    print_line(c.angles, c.angles_differing);
+    print_line(c.marks, c.marks_differing);
 }
 
 fn main() {

@@ -3,7 +3,7 @@ use crate::agreement::{Agreement, nothing_apart};
 use crate::compare::{
     answers_float, answers_matrix3, answers_vec3, has_words, same_matrix3, same_vec2, same_vec3,
 };
-use crate::report_words::with_mark;
+use crate::mark_words::with_mark;
 use crate::words::{mat2, matrix3, vec2, vec3};
 use math_functions::matrix::{
     MarkedMatrix3, MarkedVec2, MarkedVec3, add_mm, det, det2, invert_matrix, mul_mm, mul_mv,

@@ -5,10 +5,10 @@
 use crate::agreement::{Agreement, if_also, nothing_apart};
 use crate::compare::{has_words, is_switch};
 use crate::joint_words::{indices, is_joint, same_joint, words_of};
+use crate::mark_words::{MARK_WORDS, REPORT_WORDS, with_mark, with_report};
 use crate::record_words::{
     BODY_WORDS, CONTEXT_WORDS, context, same_context, same_state, state, words_of_states,
 };
-use crate::report_words::{MARK_WORDS, REPORT_WORDS, with_mark, with_report};
 use crate::stage_calls::{prepare, solve, warm_start};
 use crate::words::{plus, switch, word, words_from};
 use constraint::velocity::Velocities;
@@ -19,14 +19,14 @@ use records::body::{BodyState, IDENTITY_BODY_STATE};
 use records::joint::JointSim;
 use solver::StepContext;
 
-// Where a case with states has its parts. The report is the last.
+// Where a case with states has its parts. The marks, of a solve, are the last.
 #[derive(Drop)]
 struct Parts {
     count: u32,
     states: usize,
     joint_after: usize,
     states_after: usize,
-    report: usize,
+    marks: usize,
 }
 
 // The parts of a case whose count of states is the word at i.
@@ -40,7 +40,7 @@ fn parts_of(kind: u32, p: &[u8], i: usize) -> Parts {
         states,
         joint_after,
         states_after,
-        report: plus(states_after, words_of_states(count)),
+        marks: plus(states_after, words_of_states(count)),
     }
 }
 
@@ -93,11 +93,12 @@ fn same_states(p: &[u8], parts: Parts, at: Indices, pair: StatePair) -> bool {
         && (count < 3 || same_state_of(p, parts, 2, at, pair))
 }
 
-// Whether a case has a count of states that is allowed, the words that go with it, and indices below it.
-fn is_whole(p: &[u8], parts: Parts, at: Indices) -> bool {
+// Whether a case has a count of states that is allowed, the words that go with it and with the marks, and
+// indices below it.
+fn is_whole(p: &[u8], parts: Parts, mark_words: usize, at: Indices) -> bool {
     let count = parts.count as usize;
     count <= 3
-        && has_words(p, plus(parts.report, REPORT_WORDS))
+        && has_words(p, plus(parts.marks, mark_words))
         && !bad_index(count, at.a)
         && !bad_index(count, at.b)
 }
@@ -144,18 +145,17 @@ fn same_left(
 fn is_warm_start(kind: u32, p: &[u8], parts: Parts, at: Indices) -> Agreement {
     let pair = states_of(p, parts, at);
     let r = warm_start(kind, kind, p, pair);
-    let same = if_also(
+    if_also(
         (r.number == 0) & (r.place == 0),
         same_left(kind, p, parts, at, pair, r.velocities, r.joint),
-    );
-    with_report(same, p, parts.report, r.report)
+    )
 }
 
 fn agrees_warm_start(kind: u32, p: &[u8]) -> Agreement {
     let parts = parts_of(kind, p, words_of(kind));
     let at = indices(kind, p);
     if_also(
-        is_whole(p, parts, at) & is_joint(kind, p),
+        is_whole(p, parts, 0, at) & is_joint(kind, p),
         is_warm_start(kind, p, parts, at),
     )
 }
@@ -174,7 +174,7 @@ fn is_solve(
         (r.number == 0) & (r.place == 0),
         same_left(kind, p, parts, at, pair, r.velocities, r.joint),
     );
-    with_report(same, p, parts.report, r.report)
+    with_report(same, p, parts.marks, r.report)
 }
 
 fn agrees_solve(kind: u32, p: &[u8]) -> Agreement {
@@ -184,7 +184,7 @@ fn agrees_solve(kind: u32, p: &[u8]) -> Agreement {
     let parts = parts_of(kind, p, bias + 1);
     let at = indices(kind, p);
     if_also(
-        is_whole(p, parts, at)
+        is_whole(p, parts, REPORT_WORDS, at)
             & is_joint(kind, p)
             & same_context(words_from(p, words), step)
             & is_switch(p, bias),

@@ -2,13 +2,13 @@
 //
 // The inputs are the joint after the number of its case; for prepare the context and two bodies, for
 // a warm start two states, for a solve the context, the switch and two states. The answer is number,
-// place, the joint, and for prepare its mark, for the others the velocities and the report. As in
-// stages.rt, what was read is compared with the words that it was read from too.
+// place, the joint, but for prepare the velocities, and but for a warm start the marks. As in stages.rt,
+// what was read is compared with the words that it was read from too.
 use crate::agreement::{Agreement, if_also, nothing_apart};
 use crate::compare::{has_words, is_switch, same_vec3, same_word};
 use crate::joint_words::{is_cased_joint, same_joint, words_of};
+use crate::mark_words::{MARK_WORDS, REPORT_WORDS, with_mark, with_report};
 use crate::record_words::{BODY_WORDS, CONTEXT_WORDS, STATE_WORDS, context, same_context, state};
-use crate::report_words::{MARK_WORDS, REPORT_WORDS, with_mark, with_report};
 use crate::stage_calls::{prepare, solve, warm_start};
 use crate::words::{plus, switch, word, words_from};
 use constraint::velocity::Velocities;
@@ -51,13 +51,11 @@ fn is_prepare(kind: u32, case: u32, p: &[u8], answer: &[u8]) -> Agreement {
 
 fn is_warm_start(kind: u32, case: u32, p: &[u8], states: &[u8], answer: &[u8]) -> Agreement {
     let r = warm_start(kind, case, p, pair_at(states));
-    let velocities = plus(2, words_of(case));
-    let same = if_also(
+    if_also(
         same_numbers(answer, r.number, r.place)
-            & same_velocities(words_from(answer, velocities), r.velocities),
+            & same_velocities(words_from(answer, plus(2, words_of(case))), r.velocities),
         same_joint(case, words_from(answer, 2), r.joint),
-    );
-    with_report(same, answer, plus(velocities, VELOCITY_WORDS), r.report)
+    )
 }
 
 fn is_solve(
@@ -96,7 +94,7 @@ fn agrees_warm_start(kind: u32, case: u32, p: &[u8]) -> Agreement {
     let states = 1 + words;
     let answer = states + 2 * STATE_WORDS;
     if_also(
-        has_words(p, plus(answer, 2 + words + VELOCITY_WORDS + REPORT_WORDS)) & is_cased_joint(p),
+        has_words(p, plus(answer, 2 + words + VELOCITY_WORDS)) & is_cased_joint(p),
         is_warm_start(
             kind,
             case,

@@ -30,7 +30,6 @@ use Rattle.constraint.specs.Answer.{not_prepared, not_warm_started, not_solved}
 use Rattle.constraint.specs.Claims.{NonNegative, AtMostOne, BothOfKind}
 use Rattle.constraint.proofs.Facts.{worked, twist_lower_non_negative, twist_upper_non_negative, zero_at_most, one_at_most}
 use Rattle.constraint.proofs.Facts.{always, kept, numbered, refused, case_kept, accepted, both_of_kind}
-use Rattle.row_count.specs.Revolute.{count_rows}
 use Rattle.revolute.specs.Revolute.{half, with_impulses, twist_limit, joint_rotation, solve_spring, solve_motor, solve_limits, solve_perp, solve_point}
 use Rattle.revolute.specs.Revolute.{revolute_solved}
 use Rattle.revolute.specs.Revolute.{solve_revolute, warm_angular_impulse, warm_start_revolute}
@@ -98,7 +97,7 @@ module _ (base : JointBase) (j : RevoluteJoint) (state_a state_b : BodyState) wh
       let r = solve_revolute base j h inv_h state_a state_b use_bias in
       solve_revolute base (with_indices j x y) h inv_h state_a state_b use_bias
       ≡ revolute_solved (with_indices r.joint x y) r.angles r.velocities r.report
-  unfolding solve_revolute joint_rotation solve_spring solve_motor solve_limits solve_perp solve_point count_rows
+  unfolding solve_revolute joint_rotation solve_spring solve_motor solve_limits solve_perp solve_point
   solve_indices h inv_h use_bias x y = refl
 
   pub warm_start_indices : (x y : ℤ) → warm_start_revolute base (with_indices j x y) state_a state_b ≡ warm_start_revolute base j state_a state_b

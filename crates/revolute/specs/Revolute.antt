@@ -43,11 +43,10 @@ use Rattle.constraint.specs.declared.answer.Solved.{Solved}
 use Rattle.constraint.specs.Velocity.{velocities_of, inv_masses_of, apply_axial, apply_angular, apply_point, apply_warm}
 use Rattle.constraint.specs.Soft.{soft_bias, soft_bias2, soft_impulse, soft_impulse3_products, rigid2}
 use Rattle.constraint.specs.Rotation.{flipped_relative_rotation}
-use Rattle.constraint.specs.Angular.{axial_row, twist_angle_if, TwistLimit, twist_limit_rows}
+use Rattle.constraint.specs.Angular.{axial_row, is_worked, twist_angle_if, TwistLimit, twist_limit_rows}
 use Rattle.constraint.specs.Point.{point_result, point_bias, point_mass, point_cdot}
 use Rattle.constraint.specs.Prepare.{prepare_base, prepare_frame, awake_index, axial_mass}
 use Rattle.constraint.specs.Answer.{prepared, not_prepared, warm_started, not_warm_started, report, solved, not_solved}
-use Rattle.row_count.specs.Revolute.{spring_worked, motor_worked, limit_worked, perp_worked, count_rows}
 use Rattle.revolute.specs.declared.prepare.RevolutePrepared.{RevolutePrepared}
 use Rattle.revolute.specs.declared.rows.PerpRow.{PerpRow}
 use Rattle.revolute.specs.declared.solve.RevoluteSolved.{RevoluteSolved}
@@ -220,16 +219,16 @@ point_row use_bias softness r_a r_b dc_a dc_b delta_center old_impulse m v =
 unfoldable pub joint_rotation : RevoluteJoint → BodyState → BodyState → RelativeRotation
 joint_rotation j state_a state_b = flipped_relative_rotation state_a.delta_rotation j.frame_a.q state_b.delta_rotation j.frame_b.q
 
--- The rows at the fields of the joint and the states, each but the point row by its test in row_count/specs/Revolute.antt. The point row is always worked.
+-- The rows at the fields of the joint and the states. All but the point row are skipped when rotation is fixed.
 
 unfoldable pub solve_spring : Bool → RevoluteJoint → Quat → InvMasses → Velocities → AxialRow
 solve_spring fixed_rotation j rel_q m v =
-    spring_row (spring_worked fixed_rotation j) rel_q j.target_angle j.spring_softness j.axial_mass j.rotation_axis_z
+    spring_row (is_worked j.enable_spring fixed_rotation) rel_q j.target_angle j.spring_softness j.axial_mass j.rotation_axis_z
     j.spring_impulse m v
 
 unfoldable pub solve_motor : Bool → RevoluteJoint → Float → InvMasses → Velocities → AxialRow
 solve_motor fixed_rotation j h m v =
-    motor_row (motor_worked fixed_rotation j) j.motor_speed j.max_motor_torque h j.axial_mass j.rotation_axis_z
+    motor_row (is_worked j.enable_motor fixed_rotation) j.motor_speed j.max_motor_torque h j.axial_mass j.rotation_axis_z
     j.motor_impulse m v
 
 -- what the rows of the joint's limit are worked with, at a twist angle
@@ -247,11 +246,11 @@ twist_limit j angle =
 
 unfoldable pub solve_limits : Bool → Softness → RevoluteJoint → Float → Float → Bool → InvMasses → Velocities → LimitRows
 solve_limits fixed_rotation softness j angle inv_h use_bias m v =
-    twist_limit_rows (limit_worked fixed_rotation j) (twist_limit j angle) softness inv_h use_bias m v
+    twist_limit_rows (is_worked j.enable_limit fixed_rotation) (twist_limit j angle) softness inv_h use_bias m v
 
 unfoldable pub solve_perp : Bool → Softness → RevoluteJoint → RelativeRotation → Bool → InvMasses → Velocities → PerpRow
 solve_perp fixed_rotation softness j rotation use_bias m v =
-    perp_row (perp_worked fixed_rotation) rotation softness use_bias j.perp_axis_x j.perp_axis_y j.perp_impulse m v
+    perp_row (not fixed_rotation) rotation softness use_bias j.perp_axis_x j.perp_axis_y j.perp_impulse m v
 
 unfoldable pub solve_point : Softness → RevoluteJoint → BodyState → BodyState → Bool → InvMasses → Velocities → PointRow
 solve_point softness j state_a state_b use_bias m v =
@@ -263,8 +262,7 @@ abbrev pub revolute_solved : RevoluteJoint → LimitAngles → Velocities → Re
 revolute_solved joint angles velocities r = record { joint = joint; angles = angles; velocities = velocities; report = r }
 
 -- document 01's rows of a solve, in order: spring, motor, lower, upper, two perpendicular axes, point. C-11: the angle of the limit's rows is stored as the
--- twist, and NaN as the swing: there is no cone. C-19: the rows are counted by the tests by which they are worked. C-15: the marks of the perpendicular and the
--- point row are passed on
+-- twist, and NaN as the swing: there is no cone. C-15: the marks of the perpendicular and the point row are passed on
 unfoldable pub solve_revolute : JointBase → RevoluteJoint → Float → Float → BodyState → BodyState → Bool → RevoluteSolved
 solve_revolute base j h inv_h state_a state_b use_bias =
     let m = inv_masses_of base in
@@ -273,7 +271,7 @@ solve_revolute base j h inv_h state_a state_b use_bias =
     let rotation = joint_rotation j state_a state_b in
     let spring = solve_spring fixed_rotation j rotation.rel_q m (velocities_of state_a state_b) in
     let motor = solve_motor fixed_rotation j h m spring.velocities in
-    let angle = twist_angle_if (limit_worked fixed_rotation j) rotation.rel_q in
+    let angle = twist_angle_if (is_worked j.enable_limit fixed_rotation) rotation.rel_q in
     let limits = solve_limits fixed_rotation softness j angle inv_h use_bias m motor.velocities in
     let perp = solve_perp fixed_rotation softness j rotation use_bias m limits.velocities in
     let point = solve_point softness j state_a state_b use_bias m perp.velocities in
@@ -282,7 +280,7 @@ solve_revolute base j h inv_h state_a state_b use_bias =
     perp.perp_axis_x perp.perp_axis_y)
     (limit_angles angle nan)
     point.velocities
-    (report (count_rows fixed_rotation j) perp.mark point.mark)
+    (report perp.mark point.mark)
 
 -- ==== The stages over a joint of any kind
 

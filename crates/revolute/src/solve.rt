@@ -15,7 +15,6 @@ use math_functions::quat::{inv_mul_quat, mul_quat, rotate_vector};
 use math_functions::types::{Quat, Vec2, Vec3, nan};
 use records::body::BodyState;
 use records::joint::{JointBase, LimitAngles, RevoluteJoint};
-use row_count::revolute::count_rows;
 use solver::Softness;
 
 // What a solve leaves.
@@ -225,7 +224,6 @@ pub fn solve_revolute(
     let limits = solve_limits(fixed, soft, joint, twist, inv_h, use_bias, m, v);
     let perp = solve_perp(fixed, soft, joint, turn, use_bias, m, limits.velocities);
     let point = solve_point(soft, joint, state_a, state_b, use_bias, m, perp.velocities);
-    let rows = count_rows(fixed, joint);
     joint = with_impulses(
         joint,
         point.impulse,
@@ -245,7 +243,6 @@ pub fn solve_revolute(
     let perp_mark = perp.mark;
     let point_mark = point.mark;
     let report = Report {
-        rows,
         perp_mark,
         point_mark,
     };

@@ -18,7 +18,7 @@ use Rattle.joint.specs.Index.{index_a, index_b, bad_index}
 use Rattle.records.specs.Joint.{case_of, is_other}
 use Rattle.scene.specs.Scene.{joint_at}
 use Rattle.scene.specs.Calls.{Call, calls, Every}
-use Rattle.scene.specs.Plain.{cause, verdict_of, first_cause, early_cause, verdict, Accepted, done, refused, run_calls, rows_of_calls, plain_run}
+use Rattle.scene.specs.Plain.{cause, verdict_of, first_cause, early_cause, verdict, Accepted, done, refused, run_calls, plain_run}
 use Rattle.scene.proofs.Framed.{Framed, cause_kept}
 use Rattle.scene.specs.Claims.{Cause6, Cause7, OutOf, Test, test, call_tests, tests, NoCause, FirstCause}
 
@@ -190,17 +190,17 @@ answers_hold Q ts v a zeros h = by (eqb v.number 0) refl
 -- ---- a run is worked, or refused
 
 pub by_verdict : (s : Scene) (l : List ℕ) (P : Run → Type 0)
-    → (Accepted s l → P (done s (run_calls (calls l) s) (rows_of_calls (calls l) s)))
+    → (Accepted s l → P (done s (run_calls (calls l) s)))
     → ((verdict s l).number ≢ 0 → P (refused (verdict s l) s))
     → P (plain_run s l)
 unfolding plain_run
 by_verdict s l P worked stopped = by (eqb (verdict s l).number 0) refl
   where
-    by : (b : Bool) → eqb (verdict s l).number 0 ≡ b → P (cond b (done s (run_calls (calls l) s) (rows_of_calls (calls l) s)) (refused (verdict s l) s))
+    by : (b : Bool) → eqb (verdict s l).number 0 ≡ b → P (cond b (done s (run_calls (calls l) s)) (refused (verdict s l) s))
     by true e = worked (eqb-true (verdict s l).number 0 e)
     by false e = stopped (eqb-false (verdict s l).number 0 e)
 
-pub run_accepted : (s : Scene) (l : List ℕ) → Accepted s l → plain_run s l ≡ done s (run_calls (calls l) s) (rows_of_calls (calls l) s)
+pub run_accepted : (s : Scene) (l : List ℕ) → Accepted s l → plain_run s l ≡ done s (run_calls (calls l) s)
 unfolding plain_run
 run_accepted s l e = rw e
 

@@ -27,8 +27,6 @@ use Rattle.constraint.specs.Angular as Angular
 use Rattle.constraint.specs.Point as Point
 use Rattle.weld.specs.Weld as Weld
 use Rattle.joint.specs.Stage as Stage
-use Rattle.scene.proofs.Accepted.{run_accepted}
-use Rattle.scene.proofs.Rows.{rows_alike}
 use Rattle.scene.proofs.Order.{same_answer}
 use Rattle.scene.proofs.Changes.{pos_of}
 use Rattle.records.specs.Joint.{unused_joint}
@@ -82,12 +80,6 @@ shared : ShareDynamic (chain 0x1000) 0 1
 unfolding chain Body.is_dynamic
 shared = (1, inr refl, inl refl, refl)
 
-same_rows : (plain_run (chain 0x1000) first_then_second).rows ≡ (plain_run (chain 0x1000) second_then_first).rows
-same_rows =
-    ap (λ r. r.rows) (run_accepted (chain 0x1000) first_then_second (accepted_first 0x1000))
-    ∙ rows_alike (chain 0x1000) (calls first_then_second) (calls second_then_first) each_alike
-    ∙ sym (ap (λ r. r.rows) (run_accepted (chain 0x1000) second_then_first (accepted_second 0x1000)))
-
 pub differ : Differ
 differ =
     record {
@@ -98,7 +90,6 @@ differ =
       one_ends = ends.0;
       other_ends = ends.1;
       not_alike = λ e. two_is_not_four (sym ends.0 ∙ ap (λ r. (body_at r.scene 0).linear_velocity.x) e ∙ ends.1);
-      same_rows = same_rows;
     }
 
 -- ---- a body in the middle that is not dynamic

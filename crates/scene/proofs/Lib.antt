@@ -1,5 +1,4 @@
 pub mod Reorder
-pub mod Rows
 pub mod Stages
 pub mod Stores
 pub mod Framed

@@ -1,7 +1,7 @@
 -- Which calls may be exchanged: those of two joints that share no dynamic body. So the theorem on order holds of a scene's calls. Assumes nothing.
 use mathlib.Core.Path.{◌≡◌, refl, sym, ap, ap₂, ◌∙◌}
 use mathlib.Core.Logic.{◌⊎◌, inl, inr, ⊎_elim, ◌≢◌}
-use mathlib.Core.Bool.{Bool, true, false, ◌||◌, true≢false, false≢true, and-eq-true_iff}
+use mathlib.Core.Bool.{Bool, true, false, ◌||◌, true≢false, false≢true, and-eq-true_iff, or_self}
 use mathlib.Core.List.{List, [], ◌∷◌}
 use Prim.Native.Nat.{ℕ}
 use lib.Dec.{eqb}
@@ -19,11 +19,10 @@ use Rattle.scene.specs.declared.Scene.{Scene}
 use Rattle.scene.proofs.Reorder.{Steps, or_left, or_right, reorder}
 use Rattle.joint.specs.Index.{index_a, index_b}
 use Rattle.scene.specs.Scene.{with_bodies_and_joints, joint_at, Dynamic, Names, ShareDynamic}
-use Rattle.scene.specs.Calls.{Call, calls, only_of, only_of_two}
+use Rattle.scene.specs.Calls.{Call, calls, keep_if, only_of, only_of_two}
 use Rattle.scene.specs.Plain.{placed, stage_at, step, run_all, done, Accepted, plain_run}
 use Rattle.scene.proofs.Stores.{clash, clash_at, Clear, both_unseen, both_swap}
 use Rattle.scene.proofs.Framed.{Framed, framed_start, framed_step, fixed_at}
-use Rattle.scene.proofs.Rows.{one_as_two, rows_alike}
 
 -- ---- two calls of joints that do not clash may be exchanged
 
@@ -179,6 +178,10 @@ laws s =
 
 -- ---- the theorem on order
 
+one_as_two : (j : ℕ) (l : List Call) → only_of_two j j l ≡ only_of j l
+one_as_two j [] = refl
+one_as_two j (c ∷ l) = ap₂ (λ b m. keep_if b c m) (or_self (eqb c.slot j)) (one_as_two j l)
+
 pub end_alike : (s : Scene) (l₁ l₂ : List Call)
     → ((j : ℕ) → only_of j l₁ ≡ only_of j l₂)
     → ((j k : ℕ) → j ≢ k → ShareDynamic s j k → only_of_two j k l₁ ≡ only_of_two j k l₂)
@@ -197,4 +200,4 @@ pub same_answer : (s : Scene) (l₁ l₂ : List ℕ) → Accepted s l₁ → Acc
     → ((j k : ℕ) → j ≢ k → ShareDynamic s j k → only_of_two j k (calls l₁) ≡ only_of_two j k (calls l₂))
     → plain_run s l₁ ≡ plain_run s l₂
 unfolding plain_run
-same_answer s l₁ l₂ a₁ a₂ one two = rw (a₁, a₂) (ap₂ (done s) (end_alike s (calls l₁) (calls l₂) one two) (rows_alike s (calls l₁) (calls l₂) one))
+same_answer s l₁ l₂ a₁ a₂ one two = rw (a₁, a₂) (ap (done s) (end_alike s (calls l₁) (calls l₂) one two))

@@ -3,7 +3,7 @@ use mathlib.Core.Path.{◌≡◌, refl, sym, ap, ◌∙◌, subst}
 use mathlib.Core.Logic.{inl, inr, ⊎_elim, ◌≢◌, ◌↔◌}
 use mathlib.Core.Bool.{Bool, true, false}
 use mathlib.Core.List.{List, [], ◌∷◌, ◌++◌}
-use Prim.Native.Nat.{ℕ, ◌+◌, ◌*◌, ◌≤◌, ◌<◌}
+use Prim.Native.Nat.{ℕ, ◌+◌, ◌≤◌, ◌<◌}
 use native.Mathlib.Omega.{arith}
 use lib.Dec.{eqb}
 use lib.ListN.{length, get_or}
@@ -17,13 +17,11 @@ use Rattle.records.specs.Body.{identity_body_state}
 use Rattle.joint.specs.Stage.{stage_joint}
 use Rattle.scene.specs.declared.Scene.{Scene}
 use Rattle.scene.specs.Scene.{joint_at, body_at}
-use Rattle.scene.specs.Calls.{Call, calls, Every, SolveListed}
+use Rattle.scene.specs.Calls.{Call, calls, SolveListed}
 use Rattle.scene.specs.Plain.{verdict, Accepted, run_calls, is_still, plain_run}
-use Rattle.scene.specs.Rows.{solves}
 use Rattle.scene.specs.Claims.{Cause6, Cause7, call_tests, tests, Numbers, Acceptance, AcceptedIsZero, InRange, Range, Refusal, Midway}
 use Rattle.scene.specs.Claims.{Chained, ChainedLists, both_velocities, Stillness, SameBits, StillKeepsBodies, NoBodies, EmptyList, Order, OrderCounted}
 use Rattle.scene.specs.Claims.{Changes, ChangesMidway, OnlyChanges, record_settings, limits_of, LimitsNonNegative}
-use Rattle.scene.specs.Claims.{NoCause, RunRows, RowsMidway, RowsBetween, NoRows, RowsAnyOrder}
 use Rattle.scene.specs.Claims.{LimitsAfterSolve, LimitsMidway, Limits, Differ, Agree}
 use Rattle.scene.proofs.Accepted.{verdict_answers, answers_numbers, answers_none, OfTests, answers_hold}
 use Rattle.scene.proofs.Accepted.{by_verdict, run_accepted, run_verdict, accepted_calls, no_cause_kept, no_cause_at}
@@ -32,8 +30,6 @@ use Rattle.scene.proofs.Stages.{no_limits, stage_keeps, warm_keeps, solve_limits
 use Rattle.scene.proofs.Settled.{settled}
 use Rattle.scene.proofs.Framed.{unread, framed, fixed_at}
 use Rattle.scene.proofs.Still.{same_patterns, same_below_lem, bodies_same}
-use Rattle.scene.proofs.Rows.{rows_at_start_lem, at_most_calls, fewer_solves, at_least_solves}
-use Rattle.scene.proofs.Rows as Rows
 use Rattle.scene.proofs.Examples as Examples
 use Rattle.scene.proofs.Order.{same_answer}
 use Rattle.scene.proofs.Counted.{same_answer_counted}
@@ -152,50 +148,6 @@ order = same_answer
 
 pub order_counted : OrderCounted
 order_counted = same_answer_counted
-
--- ---- rows
-
-pub rows_midway : RowsMidway
-rows_midway = rows_at_start_lem
-
-pub run_rows : RunRows
-run_rows s l e = ap (λ r. r.rows) (run_accepted s l e) ∙ rows_at_start_lem s (calls l)
-
--- no cause 1 of an accepted list's calls
-none_other : (s : Scene) (p : ℕ) (l : List Call) → NoCause (call_tests s p l) → Every (λ c. (joint_at s c.slot).union_ ≢ Other) l
-none_other s p [] h = tt
-none_other s p (c ∷ l) h = (h.1.1.0, none_other s (p + 1) l h.1.1.1.1.1)
-
-pub rows_between : RowsBetween
-rows_between s l =
-    let fewer = fewer_solves (calls l) in
-    record {
-      at_most = omega (arith, few, fewer);
-      at_most_solves = few;
-      at_least = λ e. rw (run_rows s l e) (at_least_solves s (calls l) (none_other s 0 (calls l) (accepted_calls s l e)));
-    }
-  where
-    few : (plain_run s l).rows ≤ 6 * length (solves (calls l))
-    few =
-        by_verdict s l (λ r. r.rows ≤ 6 * length (solves (calls l))) (λ e. rw (rows_at_start_lem s (calls l)) (at_most_calls s (calls l)))
-        (λ ne. omega arith)
-
-none_of_length : {C : Type 0} (l : List C) → length l ≤ 0 → l ≡ []
-none_of_length [] h = refl
-none_of_length (a ∷ l) h = absurd (omega (arith, h))
-
-pub no_rows : NoRows
-no_rows s l =
-    let range = rows_between s l in
-    record {
-      refused = by_verdict s l (λ r. r.number ≢ 0 → r.rows ≡ 0) (λ e ne. absurd (ne refl)) (λ n ne. refl);
-      warm_starts = λ e. let most = range.at_most_solves in let none = ap length e in omega (arith, most, none);
-      only = λ e z. none_of_length (solves (calls l)) (let least = range.at_least e in omega (arith, least, z));
-    }
-
-pub rows_any_order : RowsAnyOrder
-rows_any_order s l₁ l₂ a₁ a₂ as_many =
-    run_rows s l₁ a₁ ∙ Rows.rows_any_order s (calls l₁) (calls l₂) as_many ∙ sym (run_rows s l₂ a₂)
 
 -- ---- what may change
 

@@ -7,10 +7,9 @@ use native.Mathlib.Omega.{arith}
 use lib.ListN.{length, length-append}
 use Rattle.scene.specs.declared.Scene.{Scene}
 use Rattle.scene.specs.Calls.{Call, call, calls, Every}
-use Rattle.scene.specs.Plain.{cause, verdict, Accepted, run_calls, rows_of_calls, plain_run}
+use Rattle.scene.specs.Plain.{cause, verdict, Accepted, run_calls, plain_run}
 use Rattle.scene.specs.Claims.{Cause6, Cause7, tests, OneAfterOther}
 use Rattle.scene.proofs.Framed.{Framed, framed, framed_start, cause_kept}
-use Rattle.scene.proofs.Rows.{rows_chained}
 use Rattle.scene.proofs.Accepted.{verdict_answers, answers_none, by_verdict, run_accepted, no_causes, causes_none}
 
 -- ---- calls
@@ -130,15 +129,5 @@ module _ (s : Scene) (l₁ l₂ : List ℕ) (even : length l₁ % 2 ≡ 0) where
       ∙ sym (ap (λ r. run_calls (calls l₂) r.scene) (run_accepted s l₁ h.1))
       ∙ sym (ap (λ r. r.scene) (run_accepted t l₂ h.2))
 
-  rows_of : Accepted s (l₁ ++ l₂) → (plain_run s (l₁ ++ l₂)).rows ≡ (plain_run s l₁).rows + (plain_run t l₂).rows
-  rows_of e =
-      let h = split e in
-      let first = run_accepted s l₁ h.1 in
-      ap (λ r. r.rows) (run_accepted s (l₁ ++ l₂) e)
-      ∙ ap (λ k. rows_of_calls k s) (calls_chained l₁ l₂ even)
-      ∙ rows_chained s (calls l₁) (calls l₂)
-      ∙ sym (ap (λ r. r.rows + rows_of_calls (calls l₂) r.scene) first)
-      ∙ sym (ap (λ r. (plain_run s l₁).rows + r.rows) (run_accepted t l₂ h.2))
-
   pub one_after_other : OneAfterOther s l₁ l₂
-  one_after_other = record { accepted = (split, join); scene = scene_of; rows = rows_of }
+  one_after_other = record { accepted = (split, join); scene = scene_of }

@@ -39,7 +39,7 @@ module _ {C : Type 0} where
 abbrev pub Listed : ℕ → List Call → Type 0
 Listed j l = Some (λ c. c.slot ≡ j) l
 
--- a solve of the joint stands in the list: a stage other than 0, which in an accepted list is 1 or 2
+-- a solve of the joint stands in the list: stage 1 or 2
 abbrev pub SolveListed : ℕ → List Call → Type 0
 SolveListed j l = Some (λ c. (c.slot ≡ j) × (c.stage ≢ 0)) l
 

@@ -1,13 +1,13 @@
--- What holds of every run of a call list on a scene, in document 01's words, of still in C-20's, and of rows in C-19's. Statements only: each is proved in
--- proofs/Proved.antt, under the same name in small letters. Assumes nothing.
+-- What holds of every run of a call list on a scene, in document 01's words, and of still in C-20's. Statements only: each is proved in proofs/Proved.antt,
+-- under the same name in small letters. Assumes nothing.
 --
 -- They are about the plain run. The program's run is the function `run_list` of the crate `call_list`, and its contract is that it answers the plain run,
--- number, place, still, rows and the whole scene, for every scene and every list of bytes:
+-- number, place, still and the whole scene, for every scene and every list of bytes:
 --
 --     run_list scene list ≡ plain_run scene list
 --
 -- So each statement about `plain_run` is one about `run_list`.
-use Rattle.std.specs.Prelude.{◌≡◌, ◌⊎◌, ◌≢◌, ◌↔◌, Bool, true, false, List, [], ◌∷◌, ◌++◌, ℕ, ◌+◌, ◌*◌, ◌%◌, ◌^◌, ◌≤◌, ◌<◌, T, Float, ℤ, pos, negsuc, length}
+use Rattle.std.specs.Prelude.{◌≡◌, ◌⊎◌, ◌≢◌, ◌↔◌, Bool, true, false, List, [], ◌∷◌, ◌++◌, ℕ, ◌+◌, ◌%◌, ◌^◌, ◌≤◌, ◌<◌, T, Float, ℤ, pos, negsuc, length}
 use Rattle.std.specs.Float.{nan, binary32}
 use Rattle.std.specs.Float.Ieee.{nan_bits}
 use Rattle.math_functions.specs.declared.types.Vec3.{Vec3}
@@ -25,8 +25,7 @@ use Rattle.joint.specs.Index.{index_a, index_b}
 use Rattle.scene.specs.declared.Scene.{Scene}
 use Rattle.scene.specs.Scene.{joint_at, body_at, Dynamic, Names, ShareDynamic}
 use Rattle.scene.specs.Calls.{Call, calls, Listed, SolveListed, only_of, only_of_two}
-use Rattle.scene.specs.Plain.{Accepted, run_calls, rows_of_calls, plain_run}
-use Rattle.scene.specs.Rows.{rows_at_start, solves}
+use Rattle.scene.specs.Plain.{Accepted, run_calls, plain_run}
 use Rattle.scene.specs.Chain.{four, chain, first_then_second, second_then_first}
 
 -- ==== Numbers and places
@@ -132,11 +131,10 @@ abbrev pub Chained : Type 0
 Chained = (s : Scene) (a b : List Call) → run_calls (a ++ b) s ≡ run_calls b (run_calls a s)
 
 -- two lists put together into one, which is accepted exactly where it is not too long, the first is accepted, and so is the second in the scene that the first
--- left; and then its scene is that of the second run, and its rows are the sum of both runs' rows
+-- left; and then its scene is that of the second run
 pub record OneAfterOther (s : Scene) (l₁ l₂ : List ℕ) : Type 0 where
   pub accepted : Accepted s (l₁ ++ l₂) ↔ ((length l₁ + length l₂ ≤ 8192) × Accepted s l₁ × Accepted (plain_run s l₁).scene l₂)
   pub scene : Accepted s (l₁ ++ l₂) → (plain_run s (l₁ ++ l₂)).scene ≡ (plain_run (plain_run s l₁).scene l₂).scene
-  pub rows : Accepted s (l₁ ++ l₂) → (plain_run s (l₁ ++ l₂)).rows ≡ (plain_run s l₁).rows + (plain_run (plain_run s l₁).scene l₂).rows
 
 -- So it is of every two lists, where the first is of even length, so that no call is cut in two.
 abbrev pub ChainedLists : Type 0
@@ -178,9 +176,9 @@ EmptyList = (s : Scene) → OfEmpty s
 -- ==== Order
 
 -- Two accepted lists whose calls read the same when only one joint's are kept, whichever joint, and when only those of two joints that share a dynamic body are
--- kept, whichever two, give the same answer: number, place, still, rows and the whole scene. Which joints share a dynamic body is read off the scene at the
--- start. Nothing more is asked of joints that share only a body that is not dynamic, or none (-1), of a joint with both indices on one body, or of joints that
--- are not listed.
+-- kept, whichever two, give the same answer: number, place, still and the whole scene. Which joints share a dynamic body is read off the scene at the start.
+-- Nothing more is asked of joints that share only a body that is not dynamic, or none (-1), of a joint with both indices on one body, or of joints that are
+-- not listed.
 abbrev pub Order : Type 0
 Order = (s : Scene) (l₁ l₂ : List ℕ) → Accepted s l₁ → Accepted s l₂
     → ((j : ℕ) → only_of j (calls l₁) ≡ only_of j (calls l₂))
@@ -193,42 +191,6 @@ OrderCounted = (s : Scene) (l₁ l₂ : List ℕ) → Accepted s l₁ → Accept
     → ((j : ℕ) → j < s.joint_count → only_of j (calls l₁) ≡ only_of j (calls l₂))
     → ((j k : ℕ) → j < s.joint_count → k < s.joint_count → j ≢ k → ShareDynamic s j k → only_of_two j k (calls l₁) ≡ only_of_two j k (calls l₂))
     → plain_run s l₁ ≡ plain_run s l₂
-
--- ==== Rows
-
--- 'a run reports their sum': an accepted run's rows are the sum, over its solves, of the rows of the joint as it was at the start. Those are the rows that
--- document 01's order names for its switches and fixed rotation (`RowsNamed` of `row_count`). A warm start adds 0.
-abbrev pub RunRows : Type 0
-RunRows = (s : Scene) (l : List ℕ) → Accepted s l → (plain_run s l).rows ≡ rows_at_start s (calls l)
-
--- The same of any calls, accepted or not: what the stages report, each on what the call before it left, adds up to the rows of the joints at the start. So it
--- holds of the calls before any cut of an accepted list.
-abbrev pub RowsMidway : Type 0
-RowsMidway = (s : Scene) (before : List Call) → rows_of_calls before s ≡ rows_at_start s before
-
--- Whatever the list, a run has at most six rows a call, and at most six a solve; of an accepted list at least one for each solve
-pub record RowsRange (s : Scene) (l : List ℕ) : Type 0 where
-  pub at_most : (plain_run s l).rows ≤ 6 * length (calls l)
-  pub at_most_solves : (plain_run s l).rows ≤ 6 * length (solves (calls l))
-  pub at_least : Accepted s l → length (solves (calls l)) ≤ (plain_run s l).rows
-
-abbrev pub RowsBetween : Type 0
-RowsBetween = (s : Scene) (l : List ℕ) → RowsRange s l
-
--- 'a warm start or refusal has 0': a refused run, a list of warm starts alone, and so the empty list. An accepted list with a solve never has 0.
-pub record NoRowsOf (s : Scene) (l : List ℕ) : Type 0 where
-  pub refused : (plain_run s l).number ≢ 0 → (plain_run s l).rows ≡ 0
-  pub warm_starts : solves (calls l) ≡ [] → (plain_run s l).rows ≡ 0
-  pub only : Accepted s l → (plain_run s l).rows ≡ 0 → solves (calls l) ≡ []
-
-abbrev pub NoRows : Type 0
-NoRows = (s : Scene) (l : List ℕ) → NoRowsOf s l
-
--- Two accepted lists with as many solves of each joint have the same rows, in whatever order, and whether or not joints share a body.
-abbrev pub RowsAnyOrder : Type 0
-RowsAnyOrder = (s : Scene) (l₁ l₂ : List ℕ) → Accepted s l₁ → Accepted s l₂
-    → ((j : ℕ) → length (only_of j (solves (calls l₁))) ≡ length (only_of j (solves (calls l₂))))
-    → (plain_run s l₁).rows ≡ (plain_run s l₂).rows
 
 -- ==== What may change
 
@@ -337,8 +299,8 @@ Limits = (s : Scene) (l : List ℕ) → Accepted s l → (j : ℕ) → SolveList
 abbrev pub end_x : ℕ → List ℕ → ℕ → Float
 end_x flags l n = (body_at (plain_run (chain flags) l).scene n).linear_velocity.x
 
--- Two joints that share a dynamic body, solved in both orders: both lists are accepted and read the same at every one joint, and they end differently, with the
--- same rows. So the second hypothesis of Order is needed.
+-- Two joints that share a dynamic body, solved in both orders: both lists are accepted and read the same at every one joint, and they end differently. So the
+-- second hypothesis of Order is needed.
 pub record Differ : Type 0 where
   pub accepted_one : Accepted (chain 0x1000) first_then_second
   pub accepted_other : Accepted (chain 0x1000) second_then_first
@@ -347,7 +309,6 @@ pub record Differ : Type 0 where
   pub one_ends : end_x 0x1000 first_then_second 0 ≡ two
   pub other_ends : end_x 0x1000 second_then_first 0 ≡ four
   pub not_alike : plain_run (chain 0x1000) first_then_second ≢ plain_run (chain 0x1000) second_then_first
-  pub same_rows : (plain_run (chain 0x1000) first_then_second).rows ≡ (plain_run (chain 0x1000) second_then_first).rows
 
 -- The same joints with a body between them that is not dynamic: both orders end alike, and both ends of the chain have moved.
 pub record Agree : Type 0 where

@@ -1,6 +1,5 @@
 pub mod Scene
 pub mod Calls
 pub mod Plain
-pub mod Rows
 pub mod Chain
 pub mod Claims

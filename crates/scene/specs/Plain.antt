@@ -1,5 +1,5 @@
--- Document 01's plain run: what a run of a call list on a scene answers, from the scene at the start and the list's bytes. Still is C-20's, rows are C-19's.
--- Definitions only. Assumes nothing.
+-- Document 01's plain run: what a run of a call list on a scene answers, from the scene at the start and the list's bytes; still is C-20's. Definitions only.
+-- Assumes nothing.
 use Rattle.std.specs.Prelude.{◌≡◌, Bool, true, false, cond, ◌&&◌, ◌||◌, List, [], ◌∷◌, ℕ, zero, suc, ◌+◌, ◌%◌, eqb, ltb, leb, Float, ℤ, pos, negsuc, length, get_or, set}
 use Rattle.std.specs.Bool.{beq}
 use Rattle.std.specs.Float.{nan, inf, fin}
@@ -93,14 +93,6 @@ module _ {C S : Type 0} where
 abbrev pub run_calls : List Call → Scene → Scene
 run_calls l s = run_all step l s
 
--- ---- rows
-
--- C-19: 'Each solve reports the rows it worked, and a run reports their sum': what each call's stage reports, added up call by call, each on what the one
--- before it left
-abbrev pub rows_of_calls : List Call → Scene → ℕ
-rows_of_calls [] s = 0
-rows_of_calls (c ∷ l) s = (stage_at s (joint_at s c.slot) c.stage).report.rows + rows_of_calls l (step c s)
-
 -- ---- still
 
 abbrev pub same_exponent : ℤ → ℤ → Bool
@@ -138,13 +130,13 @@ is_still before after = same_below before.body_count before.bodies after.bodies
 
 -- ---- the run
 
--- 'number 0, place 0, still as defined, and the scene', and the rows
-abbrev pub done : Scene → Scene → ℕ → Run
-done before after rows = record { number = 0; place = 0; still = is_still before after; rows = rows; scene = after }
+-- 'number 0, place 0, still as defined, and the scene'
+abbrev pub done : Scene → Scene → Run
+done before after = record { number = 0; place = 0; still = is_still before after; scene = after }
 
--- 'the first one's number and place, still no, and the scene as fed'. C-19: 'a warm start or refusal has 0'
+-- 'the first one's number and place, still no, and the scene as fed'
 abbrev pub refused : Verdict → Scene → Run
-refused v s = record { number = v.number; place = v.place; still = false; rows = 0; scene = s }
+refused v s = record { number = v.number; place = v.place; still = false; scene = s }
 
 unfoldable pub plain_run : Scene → List ℕ → Run
-plain_run s l = cond (eqb (verdict s l).number 0) (done s (run_calls (calls l) s) (rows_of_calls (calls l) s)) (refused (verdict s l) s)
+plain_run s l = cond (eqb (verdict s l).number 0) (done s (run_calls (calls l) s)) (refused (verdict s l) s)

@@ -18,20 +18,19 @@ pub struct Scene {
     pub context: StepContext,
 }
 
-// The first cause of a refusal and its place, or 0 and 0. Only definitions speak of it.
+// The first cause of a refusal and its place, or 0 and 0.
 #[derive(Drop)]
 pub struct Verdict {
     pub number: u32,
     pub place: u32,
 }
 
-// What a run answers. `rows` is the sum of the rows that its solves worked.
+// What a run answers.
 #[derive(Drop)]
 pub struct Run {
     pub number: u32,
     pub place: u32,
     pub still: bool,
-    pub rows: u32,
     pub scene: Scene,
 }
 

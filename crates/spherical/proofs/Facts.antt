@@ -31,7 +31,6 @@ use Rattle.constraint.specs.Answer.{not_prepared, not_warm_started, not_solved}
 use Rattle.constraint.specs.Claims.{NonNegative, AtMostOne, BothOfKind}
 use Rattle.constraint.proofs.Facts.{worked, upper_limit_row_non_negative, twist_lower_non_negative, twist_upper_non_negative}
 use Rattle.constraint.proofs.Facts.{zero_at_most, one_at_most, always, kept, numbered, refused, case_kept, accepted, both_of_kind}
-use Rattle.row_count.specs.Spherical.{count_rows}
 use Rattle.spherical.specs.Spherical.{twist_limit}
 use Rattle.spherical.specs.Spherical.{with_impulses, cone_row, joint_rotation, solve_spring, solve_motor, solve_limits, solve_cone, solve_bias, solve_point}
 use Rattle.spherical.specs.Spherical.{prepare_spherical, warm_start_spherical, spherical_solved, solve_spherical}
@@ -127,7 +126,7 @@ pub solve_indices : (base : JointBase) (j : SphericalJoint) (h inv_h : Float) (s
     let next = solve_spherical base j h inv_h state_a state_b use_bias in
     solve_spherical base (with_indices j index_a index_b) h inv_h state_a state_b use_bias
     ≡ spherical_solved (with_indices next.joint index_a index_b) next.angles next.velocities next.report
-unfolding solve_spherical joint_rotation solve_spring solve_motor solve_limits solve_cone solve_bias solve_point count_rows
+unfolding solve_spherical joint_rotation solve_spring solve_motor solve_limits solve_cone solve_bias solve_point
 solve_indices base j h inv_h state_a state_b use_bias index_a index_b = refl
 
 pub warm_start_indices : (base : JointBase) (j : SphericalJoint) (state_a state_b : BodyState) (index_a index_b : ℤ) →

@@ -1,4 +1,4 @@
--- What a spherical joint's solve reports, C-19's rows and C-15's marks, and prepare's mark: each mark at the matrix that was formed. Assumes nothing.
+-- C-15's marks of the spherical joint's solve and prepare, for all inputs: each at the matrix that was formed. Assumes nothing.
 use mathlib.Core.Path.{◌≡◌, refl, sym, ◌∙◌}
 use mathlib.Core.Bool.{Bool, true, false}
 use lib.Ieee.{Float}
@@ -17,17 +17,13 @@ use Rattle.records.specs.declared.joint.SphericalJoint.{SphericalJoint}
 use Rattle.constraint.specs.Prepare.{inertia_det, prepare_base}
 use Rattle.constraint.specs.Answer.{report}
 use Rattle.constraint.specs.Claims.{point_matrix}
-use Rattle.row_count.specs.Spherical.{count_rows}
-use Rattle.constraint.specs.Angular.{twist_limit_rows}
-use Rattle.spherical.specs.Spherical.{prepare_rotation_mass, rotation_mass_mark, keep_impulses, prepare_spherical, spring_row, motor_row, cone_row, point_row}
-use Rattle.spherical.specs.Spherical.{solve_spring, solve_motor, solve_limits, solve_cone, solve_point, solve_spherical}
-use Rattle.spherical.specs.Claims.{RowsSkipped}
+use Rattle.spherical.specs.Spherical.{prepare_rotation_mass, rotation_mass_mark, keep_impulses, prepare_spherical, point_row, solve_point, solve_spherical}
 
-pub solve_report : (base : JointBase) (j : SphericalJoint) (state_a state_b : BodyState) (h inv_h : Float) (use_bias : Bool) →
+pub solve_marks : (base : JointBase) (j : SphericalJoint) (state_a state_b : BodyState) (h inv_h : Float) (use_bias : Bool) →
     (solve_spherical base j h inv_h state_a state_b use_bias).report
-    ≡ report (count_rows base.fixed_rotation j) no_mark (solve3_mark (point_matrix base j.frame_a j.frame_b state_a state_b))
+    ≡ report no_mark (solve3_mark (point_matrix base j.frame_a j.frame_b state_a state_b))
 unfolding solve_spherical solve_point point_row
-solve_report base j state_a state_b h inv_h use_bias = refl
+solve_marks base j state_a state_b h inv_h use_bias = refl
 
 -- where rotation is fixed the mass is zeros too, and has no mark
 fell_back : (fixed_rotation : Bool) (sum : Matrix3) → rotation_mass_mark fixed_rotation sum ≡ FellBack → prepare_rotation_mass fixed_rotation sum ≡ mat3_zero
@@ -59,10 +55,3 @@ module _ (base : JointBase) (j : SphericalJoint) (h : Float) (enable_warm_starti
       (prepare_spherical base j h enable_warm_starting delta_center body_a body_b).mass_mark ≡ FellBack
       → (prepare_spherical base j h enable_warm_starting delta_center body_a body_b).joint.rotation_mass ≡ mat3_zero
   prepare_fell_back e = prepare_mass ∙ fell_back (lt (inertia_det body_a body_b) threshold) _ (sym prepare_mark ∙ e)
-
--- a row that is not counted leaves its impulse as it was
-pub solve_skips : (base : JointBase) (j : SphericalJoint) (state_a state_b : BodyState) (h inv_h : Float) (use_bias : Bool)
-    → RowsSkipped base.fixed_rotation j (solve_spherical base j h inv_h state_a state_b use_bias).joint
-unfolding solve_spherical solve_spring spring_row solve_motor motor_row solve_limits twist_limit_rows solve_cone cone_row
-solve_skips base j state_a state_b h inv_h use_bias =
-    record { spring = λ e. rw e; motor = λ e. rw e; lower_twist = λ e. rw e; upper_twist = λ e. rw e; cone = λ e. rw e }

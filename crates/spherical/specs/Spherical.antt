@@ -40,11 +40,10 @@ use Rattle.constraint.specs.declared.answer.Solved.{Solved}
 use Rattle.constraint.specs.Velocity.{velocities_of, inv_masses_of, apply_angular, apply_point, apply_warm}
 use Rattle.constraint.specs.Soft.{soft_bias3, limit_bias, soft_impulse3}
 use Rattle.constraint.specs.Rotation.{relative_rotation}
-use Rattle.constraint.specs.Angular.{axial_row, row3, twist_angle_if, swing_angle_if, upper_limit_row, angular_row, TwistLimit, twist_limit_rows}
+use Rattle.constraint.specs.Angular.{axial_row, row3, is_worked, twist_angle_if, swing_angle_if, upper_limit_row, angular_row, TwistLimit, twist_limit_rows}
 use Rattle.constraint.specs.Point.{point_result, point_bias, point_mass, point_cdot}
 use Rattle.constraint.specs.Prepare.{prepare_base, awake_index, prepare_frame, axial_mass}
 use Rattle.constraint.specs.Answer.{prepared, not_prepared, warm_started, not_warm_started, report, solved, not_solved}
-use Rattle.row_count.specs.Spherical.{spring_worked, motor_worked, twist_limit_worked, cone_worked, count_rows}
 use Rattle.spherical.specs.declared.prepare.LimitAxis.{LimitAxis}
 use Rattle.spherical.specs.declared.prepare.SphericalPrepared.{SphericalPrepared}
 use Rattle.spherical.specs.declared.solve.SphericalSolved.{SphericalSolved}
@@ -193,16 +192,16 @@ point_row s r_a r_b old_impulse m v =
 unfoldable pub joint_rotation : SphericalJoint → BodyState → BodyState → RelativeRotation
 joint_rotation j state_a state_b = relative_rotation state_a.delta_rotation j.frame_a.q state_b.delta_rotation j.frame_b.q
 
--- The rows at the fields of the joint and the states, each but the point row by its test in row_count/specs/Spherical.antt. The point row is always worked.
+-- The rows at the fields of the joint and the states. All but the point row are skipped when rotation is fixed.
 
 unfoldable pub solve_spring : Bool → SphericalJoint → RelativeRotation → InvMasses → Velocities → Row3
 solve_spring fixed_rotation j rotation m v =
-    spring_row (spring_worked fixed_rotation j) rotation j.target_rotation j.spring_softness j.rotation_mass
+    spring_row (is_worked j.enable_spring fixed_rotation) rotation j.target_rotation j.spring_softness j.rotation_mass
     j.spring_impulse m v
 
 unfoldable pub solve_motor : Bool → SphericalJoint → Float → InvMasses → Velocities → Row3
 solve_motor fixed_rotation j h m v =
-    motor_row (motor_worked fixed_rotation j) j.motor_velocity j.max_motor_torque h j.rotation_mass j.motor_impulse m v
+    motor_row (is_worked j.enable_motor fixed_rotation) j.motor_velocity j.max_motor_torque h j.rotation_mass j.motor_impulse m v
 
 -- what the rows of the joint's twist limit are worked with, at a twist angle
 abbrev pub twist_limit : SphericalJoint → Float → TwistLimit
@@ -219,11 +218,11 @@ twist_limit j angle =
 
 unfoldable pub solve_limits : Bool → Softness → SphericalJoint → Float → Float → Bool → InvMasses → Velocities → LimitRows
 solve_limits fixed_rotation softness j angle inv_h use_bias m v =
-    twist_limit_rows (twist_limit_worked fixed_rotation j) (twist_limit j angle) softness inv_h use_bias m v
+    twist_limit_rows (is_worked j.enable_twist_limit fixed_rotation) (twist_limit j angle) softness inv_h use_bias m v
 
 unfoldable pub solve_cone : Bool → Softness → SphericalJoint → Float → Float → Bool → InvMasses → Velocities → AxialRow
 solve_cone fixed_rotation softness j swing_angle inv_h use_bias m v =
-    cone_row (cone_worked fixed_rotation j) swing_angle j.cone_angle softness inv_h use_bias j.swing_mass j.swing_axis
+    cone_row (is_worked j.enable_cone_limit fixed_rotation) swing_angle j.cone_angle softness inv_h use_bias j.swing_mass j.swing_axis
     j.swing_impulse m v
 
 -- the point row's bias, at the two anchors
@@ -241,8 +240,7 @@ abbrev pub spherical_solved : SphericalJoint → LimitAngles → Velocities → 
 spherical_solved joint angles velocities r = record { joint = joint; angles = angles; velocities = velocities; report = r }
 
 -- document 01's rows of a spherical solve, in order: spring, motor, lower and upper twist, cone, point. C-11: the angles of the twist limit's rows and of the
--- cone's are stored. C-19: the rows are counted by the tests by which they are worked. C-15: the mark of the point row is passed on; there is no perpendicular
--- row
+-- cone's are stored. C-15: the mark of the point row is passed on; there is no perpendicular row
 unfoldable pub solve_spherical : JointBase → SphericalJoint → Float → Float → BodyState → BodyState → Bool → SphericalSolved
 solve_spherical base j h inv_h state_a state_b use_bias =
     let m = inv_masses_of base in
@@ -252,8 +250,8 @@ solve_spherical base j h inv_h state_a state_b use_bias =
     let rel_q = rotation.rel_q in
     let spring = solve_spring fixed_rotation j rotation m (velocities_of state_a state_b) in
     let motor = solve_motor fixed_rotation j h m spring.velocities in
-    let twist = twist_angle_if (twist_limit_worked fixed_rotation j) rel_q in
-    let swing = swing_angle_if (cone_worked fixed_rotation j) rel_q in
+    let twist = twist_angle_if (is_worked j.enable_twist_limit fixed_rotation) rel_q in
+    let swing = swing_angle_if (is_worked j.enable_cone_limit fixed_rotation) rel_q in
     let limits = solve_limits fixed_rotation softness j twist inv_h use_bias m motor.velocities in
     let cone = solve_cone fixed_rotation softness j swing inv_h use_bias m limits.velocities in
     let point = solve_point softness j state_a state_b use_bias m cone.velocities in
@@ -261,7 +259,7 @@ solve_spherical base j h inv_h state_a state_b use_bias =
     (with_impulses j point.impulse spring.impulse motor.impulse limits.lower_impulse limits.upper_impulse cone.impulse)
     (limit_angles twist swing)
     point.velocities
-    (report (count_rows fixed_rotation j) no_mark point.mark)
+    (report no_mark point.mark)
 
 -- ==== The stages over a joint of any kind
 

@@ -18,7 +18,6 @@ use math_functions::quat::rotate_vector;
 use math_functions::types::Vec3;
 use records::body::BodyState;
 use records::joint::{JointBase, LimitAngles, SphericalJoint};
-use row_count::spherical::count_rows;
 use solver::Softness;
 
 // What a solve leaves.
@@ -241,7 +240,6 @@ pub fn solve_spherical(
     let velocities = point.velocities;
     let point_mark = point.mark;
     let report = Report {
-        rows: count_rows(fixed, joint),
         perp_mark: Mark::None,
         point_mark,
     };

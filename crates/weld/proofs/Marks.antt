@@ -1,4 +1,4 @@
--- What a weld joint's solve reports, C-19's rows and C-15's marks, and prepare's mark: each mark at the matrix that was formed. Assumes nothing.
+-- C-15's marks of the weld joint's solve and prepare, for all inputs: each at the matrix that was formed. Assumes nothing.
 use mathlib.Core.Path.{◌≡◌, refl, sym, ◌∙◌}
 use mathlib.Core.Bool.{Bool, true, false}
 use lib.Ieee.{Float}
@@ -14,15 +14,12 @@ use Rattle.records.specs.declared.joint.JointBase.{JointBase}
 use Rattle.records.specs.declared.joint.WeldJoint.{WeldJoint}
 use Rattle.constraint.specs.Answer.{report}
 use Rattle.constraint.specs.Claims.{point_matrix}
-use Rattle.row_count.specs.Weld.{count_rows}
-use Rattle.weld.specs.Weld.{keep_impulses, prepare_weld, weld_angular_row, point_row, solve_angular, solve_point, solve_weld}
-use Rattle.weld.specs.Claims.{RowsSkipped}
+use Rattle.weld.specs.Weld.{keep_impulses, prepare_weld, point_row, solve_point, solve_weld}
 
-pub solve_report : (base : JointBase) (j : WeldJoint) (state_a state_b : BodyState) (use_bias : Bool) →
-    (solve_weld base j state_a state_b use_bias).report
-    ≡ report (count_rows base.fixed_rotation) no_mark (solve3_mark (point_matrix base j.frame_a j.frame_b state_a state_b))
+pub solve_marks : (base : JointBase) (j : WeldJoint) (state_a state_b : BodyState) (use_bias : Bool) →
+    (solve_weld base j state_a state_b use_bias).report ≡ report no_mark (solve3_mark (point_matrix base j.frame_a j.frame_b state_a state_b))
 unfolding solve_weld solve_point point_row
-solve_report base j state_a state_b use_bias = refl
+solve_marks base j state_a state_b use_bias = refl
 
 kept_mass : (j : WeldJoint) (enable_warm_starting : Bool) → (keep_impulses j enable_warm_starting).angular_mass ≡ j.angular_mass
 unfolding keep_impulses
@@ -48,9 +45,3 @@ module _ (base : JointBase) (j : WeldJoint) (h : Float) (enable_warm_starting : 
       (prepare_weld base j h enable_warm_starting delta_center body_a body_b).mass_mark ≡ FellBack
       → (prepare_weld base j h enable_warm_starting delta_center body_a body_b).joint.angular_mass ≡ mat3_zero
   prepare_fell_back e = prepare_mass ∙ fell_back_to_zeros.inverse _ (sym prepare_mark ∙ e)
-
--- a row that is not counted leaves its impulse as it was
-pub solve_skips : (base : JointBase) (j : WeldJoint) (state_a state_b : BodyState) (use_bias : Bool)
-    → RowsSkipped base.fixed_rotation j (solve_weld base j state_a state_b use_bias).joint
-unfolding solve_weld solve_angular weld_angular_row
-solve_skips base j state_a state_b use_bias = record { angular = λ e. rw e }

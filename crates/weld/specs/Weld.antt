@@ -39,7 +39,6 @@ use Rattle.constraint.specs.Angular.{row3, angular_row}
 use Rattle.constraint.specs.Point.{point_result, point_bias, point_cdot_grouped, point_mass}
 use Rattle.constraint.specs.Prepare.{prepare_base, awake_index, prepare_frame}
 use Rattle.constraint.specs.Answer.{prepared, not_prepared, warm_started, not_warm_started, report, solved, not_solved}
-use Rattle.row_count.specs.Weld.{angular_worked, count_rows}
 use Rattle.weld.specs.declared.prepare.WeldPrepared.{WeldPrepared}
 use Rattle.weld.specs.declared.solve.WeldSolved.{WeldSolved}
 
@@ -121,11 +120,11 @@ point_row s r_a r_b old_impulse m v =
 unfoldable pub joint_rotation : WeldJoint → BodyState → BodyState → RelativeRotation
 joint_rotation j state_a state_b = flipped_relative_rotation state_a.delta_rotation j.frame_a.q state_b.delta_rotation j.frame_b.q
 
--- The rows at the fields of the joint and the states. The angular row is skipped when rotation is fixed, by its test in row_count/specs/Weld.antt.
+-- The rows at the fields of the joint and the states. The angular row is skipped when rotation is fixed.
 
 unfoldable pub solve_angular : Bool → WeldJoint → RelativeRotation → Bool → InvMasses → Velocities → Row3
 solve_angular fixed_rotation j rotation use_bias m v =
-    weld_angular_row (angular_worked fixed_rotation) rotation use_bias j.angular_hertz j.angular_spring j.angular_mass j.angular_impulse m v
+    weld_angular_row (not fixed_rotation) rotation use_bias j.angular_hertz j.angular_spring j.angular_mass j.angular_impulse m v
 
 -- the point row's bias, where r_a and r_b reach from the centres to the anchors
 unfoldable pub solve_bias : WeldJoint → Vec3 → Vec3 → BodyState → BodyState → Bool → SoftBias3
@@ -142,15 +141,14 @@ solve_point j state_a state_b use_bias m v =
 abbrev pub weld_solved : WeldJoint → Velocities → Report → WeldSolved
 weld_solved joint velocities r = record { joint = joint; velocities = velocities; report = r }
 
--- document 01's rows of a weld solve, in order: angular, point. C-19: the angular row is counted by the test by which it is worked, the point row always.
--- C-15: the mark of the point row is passed on; there is no perpendicular row
+-- document 01's rows of a weld solve, in order: angular, point. C-15: the mark of the point row is passed on; there is no perpendicular row
 unfoldable pub solve_weld : JointBase → WeldJoint → BodyState → BodyState → Bool → WeldSolved
 solve_weld base j state_a state_b use_bias =
     let m = inv_masses_of base in
     let rotation = joint_rotation j state_a state_b in
     let angular = solve_angular base.fixed_rotation j rotation use_bias m (velocities_of state_a state_b) in
     let point = solve_point j state_a state_b use_bias m angular.velocities in
-    weld_solved (with_impulses j point.impulse angular.impulse) point.velocities (report (count_rows base.fixed_rotation) no_mark point.mark)
+    weld_solved (with_impulses j point.impulse angular.impulse) point.velocities (report no_mark point.mark)
 
 -- ==== The stages over a joint of any kind
 

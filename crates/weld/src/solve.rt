@@ -14,7 +14,6 @@ use math_functions::quat::{inv_mul_quat, mul_quat, rotate_vector};
 use math_functions::types::Vec3;
 use records::body::BodyState;
 use records::joint::{JointBase, WeldJoint};
-use row_count::weld::count_rows;
 
 // What a solve leaves.
 #[derive(Drop)]
@@ -105,7 +104,6 @@ pub fn solve_weld(
     let velocities = point.velocities;
     let point_mark = point.mark;
     let report = Report {
-        rows: count_rows(base.fixed_rotation),
         perp_mark: Mark::None,
         point_mark,
     };

@@ -8,7 +8,6 @@ mod bench_sum;
 mod bench_wall;
 #[allow(dead_code)]
 mod records;
-mod rows;
 #[allow(dead_code)]
 mod words;
 
@@ -25,7 +24,6 @@ use joint::weld::{solve_weld_joint, warm_start_weld_joint};
 use joint::{JointSim, JointUnion};
 use math_functions::atan2;
 use records::velocity_bits;
-use rows::rows;
 use solver::StepContext;
 
 /// A row for each kind of joints and each kind of list, then the two leaves, then one for each kind and
@@ -59,20 +57,9 @@ fn list_of(stages: usize) -> Vec<u8> {
         .collect()
 }
 
-/// The rows of a run of the list: those of its solves.
-fn list_rows(list: &[u8], wall: &Wall) -> u32 {
-    let solves = list.chunks_exact(2).filter(|bytes| bytes[1] > 0);
-    solves
-        .map(|bytes| rows(&wall.joints[bytes[0] as usize]))
-        .sum()
-}
-
 fn run_lists(kind: usize, stages: usize, repeats: usize) -> u32 {
     let list = list_of(stages);
     let mut wall = Wall::new(kind);
-    // The Rust counts no rows. No call changes a switch, so that each run has the same: they are worked
-    // out once, outside what is repeated, which takes the time that it took without them.
-    let rows = list_rows(&list, &wall).wrapping_mul(repeats as u32);
     let mut still = 0;
     for _ in 0..repeats {
         let before = velocity_bits(&wall.states);
@@ -82,7 +69,7 @@ fn run_lists(kind: usize, stages: usize, repeats: usize) -> u32 {
         }
         still += u32::from(before == velocity_bits(&wall.states));
     }
-    add_word(add_word(sum_wall(&wall), still), rows)
+    add_word(sum_wall(&wall), still)
 }
 
 fn roots(calls: usize) -> u32 {

@@ -1,6 +1,5 @@
 //! The fixed cases at document 01's edges of a run: counts, lengths, indices, slots, stages, several
-//! causes at once, shared bodies, what still means; what `aims` brings joints to; and what the rows of a
-//! run go by.
+//! causes at once, shared bodies, what still means; and what `aims` brings joints to.
 
 use crate::aims::Aim;
 use crate::body::body_flags::DYNAMIC_FLAG;
@@ -13,7 +12,6 @@ use crate::joint::JointSim;
 use crate::math_functions::{Vec3, MAT3_IDENTITY, MAT3_ZERO, VEC3_ZERO};
 use crate::plain_run::{unused_joint, Scene, LIST_BYTES};
 use crate::records::{indices, set_indices, Joint, Kind, EMPTY, KINDS};
-use crate::row_edges::{set_switches, turn_rows_on, ways};
 use Kind::{Revolute, Spherical, Weld};
 
 /// All stages of slot 0, in their order.
@@ -34,14 +32,7 @@ pub fn write(list: &mut List) -> Step {
     empty_lists(random, list)?;
     still(random, list)?;
     whole(random, list)?;
-    aims(random, list)?;
-    // Drawn apart, so that the cases before them stay what they are.
-    let random = &mut Random::new(0, 18);
-    for kind in KINDS {
-        rows(random, kind, list)?;
-        no_rows(random, kind, list)?;
-    }
-    Ok(())
+    aims(random, list)
 }
 
 /// A scene of dynamic bodies that move, with these joints.
@@ -325,27 +316,6 @@ fn aims(random: &mut Random, list: &mut List) -> Step {
                 case(&scene, calls, list)?;
             }
         }
-    }
-    Ok(())
-}
-
-/// All stages of a joint, its switches in all ways, rotation fixed and not.
-fn rows(random: &mut Random, kind: Kind, list: &mut List) -> Step {
-    for way in 0..ways(kind) {
-        let mut scene = pair(random, kind);
-        set_switches(&mut scene.joints[0], way);
-        case(&scene, &STEP, list)?;
-    }
-    Ok(())
-}
-
-/// A joint whose solves would work all their rows: no call, warm starts alone, and a solve before a call
-/// that is refused.
-fn no_rows(random: &mut Random, kind: Kind, list: &mut List) -> Step {
-    for calls in [&[][..], &[0; 8], &[0, 1, 1, 1]] {
-        let mut scene = pair(random, kind);
-        turn_rows_on(&mut scene.joints[0]);
-        case(&scene, calls, list)?;
     }
     Ok(())
 }

@@ -56,7 +56,7 @@ fn read(from: &mut &[u32]) -> (Scene, Vec<u8>) {
 pub fn answer_words(answer: &Answer, scene: &Scene) -> Vec<u32> {
     let mut words = vec![answer.number, answer.place];
     answer.still.write(&mut words);
-    words.extend([answer.rows, scene.joint_count, scene.body_count]);
+    words.extend([scene.joint_count, scene.body_count]);
     scene.context.write(&mut words);
     write_places(scene, &mut words);
     words

@@ -1,6 +1,6 @@
 //! Cases for the direct calls on lent memory: warm start and solve of a kind, called on a joint of
 //! any case. The numbers are document 01's; where a call is not refused, the Rust answers. Each answer has
-//! a report, which has no row and no mark for a warm start and for a refusal.
+//! the marks of a solve, which a warm start and a refusal do not have.
 
 use crate::body::BodyState;
 use crate::cases::{List, Random, Step};
@@ -59,6 +59,8 @@ fn answer((_, stage, called): Call, from: &mut &[u32]) -> Vec<u32> {
     } else {
         write_joint(&joint, &mut answer);
         write_all(&states, &mut answer);
+    }
+    if refusal != 0 || stage == WarmStart {
         NO_REPORT.write(&mut answer);
     }
     answer

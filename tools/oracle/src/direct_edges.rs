@@ -1,5 +1,5 @@
 //! The fixed cases at document 01's edges of the direct calls: cases of the joint, indices, counts
-//! of bodies, flags, long slices; what `aims` brings joints to; what the marks and the row counts go by.
+//! of bodies, flags, long slices; what `aims` brings joints to; and what the marks go by.
 
 use crate::aims::Aim;
 use crate::body::body_flags::DYNAMIC_FLAG;
@@ -8,7 +8,6 @@ use crate::core::NULL_INDEX;
 use crate::direct::{case, lengthen, other_kind, Call, CALLS, MOST_STATES};
 use crate::mark_edges::{pairs_of_rows, set_rows};
 use crate::records::{joint_type, set_indices, EMPTY, KINDS};
-use crate::row_edges::{set_switches, ways};
 use crate::scene::Scene;
 use crate::stage_edges::two_bodies;
 use crate::stages::Stage;
@@ -32,10 +31,6 @@ pub fn write(list: &mut List) -> Step {
     let random = &mut Random::new(0, 13);
     for call in CALLS {
         marks(random, call, list)?;
-    }
-    let random = &mut Random::new(0, 16);
-    for call in CALLS {
-        rows(random, call, list)?;
     }
     Ok(())
 }
@@ -175,20 +170,6 @@ fn marks(random: &mut Random, call: Call, list: &mut List) -> Step {
             scene.joint.fixed_rotation = fixed_rotation;
             case(call, &scene, list)?;
         }
-    }
-    Ok(())
-}
-
-/// Solves, the switches in all ways, rotation fixed and not.
-fn rows(random: &mut Random, call: Call, list: &mut List) -> Step {
-    let (_, stage, called) = call;
-    if stage != Stage::Solve {
-        return Ok(());
-    }
-    for way in 0..ways(called) {
-        let mut scene = moving(random, call);
-        set_switches(&mut scene.joint, way);
-        case(call, &scene, list)?;
     }
     Ok(())
 }

@@ -17,8 +17,6 @@ mod marks;
 mod plain_run;
 mod records;
 mod reorder;
-mod row_edges;
-mod rows;
 mod scene;
 mod stage_edges;
 mod stages;

@@ -1,13 +1,11 @@
 //! C-15's marks: whether a matrix was solved or fell back to zeros. The Rust has none. Each is formed
-//! here and nowhere else, of what the Rust's own functions give in the order of the Rust's text. Beside
-//! them stands what a solve reports, which has its rows too.
+//! here and nowhere else, of what the Rust's own functions give in the order of the Rust's text.
 
 use crate::body::BodyState;
 use crate::core::NULL_INDEX;
 use crate::joint::{JointSim, JointUnion};
 use crate::math_functions::{self as rust, *};
 use crate::records::sides;
-use crate::rows::rows;
 use crate::scene::flipped;
 use crate::words::{record, Words};
 
@@ -103,28 +101,24 @@ pub fn mass_mark(prepared: &JointSim) -> Mark {
     }
 }
 
-/// What a solve reports: how many rows it works, and the marks of revolute's perpendicular one and of
-/// the point row.
+/// The marks of a solve's rows: revolute's perpendicular one, and the point row.
 #[derive(Clone, Copy)]
 pub struct Report {
-    pub rows: u32,
     perp: Mark,
     point: Mark,
 }
 record!(Report {
-    rows: u32,
     perp: Mark,
     point: Mark
 });
 
 /// Of what works no row: a warm start, and a refusal.
 pub const NO_REPORT: Report = Report {
-    rows: 0,
     perp: Mark::None,
     point: Mark::None,
 };
 
-/// The report of a solve of a joint that stands so before it. No row changes what the matrices are
+/// The marks of a solve of a joint that stands so before it. No row changes what the matrices are
 /// made of.
 pub fn report(joint: &JointSim, states: &[BodyState]) -> Report {
     let perp = match &joint.union_ {
@@ -134,8 +128,7 @@ pub fn report(joint: &JointSim, states: &[BodyState]) -> Report {
         _ => Mark::None,
     };
     let point = mark3(point_matrix(joint, arms(joint, states)));
-    let rows = rows(joint);
-    Report { rows, perp, point }
+    Report { perp, point }
 }
 
 /// The arms from the bodies' centres, as solve computes them.

@@ -1,9 +1,8 @@
-//! A run of a call list as document 01 defines it, still as C-20 and rows as C-19 do, on the Rust's own
-//! stages, and its tests.
+//! A run of a call list as document 01 defines it, and still as C-20 does, on the Rust's own stages,
+//! and its tests.
 
 use crate::body::{BodyState, IDENTITY_BODY_STATE};
 use crate::joint::JointSim;
-use crate::marks::Report;
 use crate::records::{indices, kind_of, velocity_bits, Joint, Kind, EMPTY, NO_ANGLES};
 use crate::solver::StepContext;
 use crate::stages::{solve, warm_start};
@@ -28,8 +27,6 @@ pub struct Answer {
     pub number: u32,
     pub place: u32,
     pub still: bool,
-    /// The sum of the rows that its calls report.
-    pub rows: u32,
 }
 
 pub fn unused_joint() -> Joint {
@@ -88,20 +85,17 @@ impl Scene {
                 number,
                 place,
                 still: false,
-                rows: 0,
             };
         }
         let before = self.velocities();
-        let mut rows = 0;
         for call in list.chunks_exact(2) {
-            rows += self.work(call[0], call[1]).rows;
+            self.work(call[0], call[1]);
         }
         let still = before == self.velocities();
         Answer {
             number,
             place,
             still,
-            rows,
         }
     }
 
@@ -138,14 +132,17 @@ impl Scene {
         }
     }
 
-    /// Works a call that was tested. A run answers no marks, and of the report the rows alone.
-    fn work(&mut self, slot: u8, stage: u8) -> Report {
+    /// Works a call that was tested.
+    fn work(&mut self, slot: u8, stage: u8) {
         let joint = &mut self.joints[usize::from(slot)];
         let states = &mut self.states[..self.body_count as usize];
         let kind = kind_of(joint).expect("the call was not tested");
         match stage {
             0 => warm_start(kind, joint, states),
-            _ => solve(kind, joint, &self.context, stage == 1, states),
+            // A run answers no marks.
+            _ => {
+                solve(kind, joint, &self.context, stage == 1, states);
+            }
         }
     }
 

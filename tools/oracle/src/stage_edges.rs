@@ -1,6 +1,6 @@
 //! The fixed cases at the places where the stages decide: determinants at the threshold, the hertz
 //! of no spring, axes along each other, the polarity of quaternions, angles at their limits, what
-//! `aims` brings joints to, and what the marks and the row counts go by.
+//! `aims` brings joints to, and what the marks go by.
 
 use crate::aims::Aim;
 use crate::body::body_flags::DYNAMIC_FLAG;
@@ -11,7 +11,6 @@ use crate::math_functions::{
     get_swing_angle, get_twist_angle, Quat, Vec3, QUAT_IDENTITY, VEC3_AXIS_Z,
 };
 use crate::records::{limit, limit_count, one_body, sides, Kind, KINDS};
-use crate::row_edges::{set_switches, ways};
 use crate::scene::{Scene, HALF_TURN_X, HALF_TURN_Y};
 use crate::solver_set::AWAKE_SET;
 use crate::stages::{case, Stage};
@@ -34,10 +33,6 @@ pub fn write(list: &mut List) -> Step {
     for kind in KINDS {
         mass_marks(random, kind, list)?;
         row_marks(random, kind, list)?;
-    }
-    let random = &mut Random::new(0, 15);
-    for kind in KINDS {
-        rows(random, kind, list)?;
     }
     Ok(())
 }
@@ -204,16 +199,6 @@ fn row_marks(random: &mut Random, kind: Kind, list: &mut List) -> Step {
             scene.joint.fixed_rotation = fixed_rotation;
             case(Stage::Solve, &scene, list)?;
         }
-    }
-    Ok(())
-}
-
-/// Solve, the switches in all ways, rotation fixed and not.
-fn rows(random: &mut Random, kind: Kind, list: &mut List) -> Step {
-    for way in 0..ways(kind) {
-        let mut scene = two_bodies(random, Stage::Solve, kind);
-        set_switches(&mut scene.joint, way);
-        case(Stage::Solve, &scene, list)?;
     }
     Ok(())
 }

@@ -1,5 +1,5 @@
 //! Cases for the stages of the joints: prepare, warm start and solve of three kinds. Each is the Rust's
-//! own, and beside it what C-11 says of the joint's two angles; marks and reports are those of `marks`.
+//! own, and beside it what C-11 says of the joint's two angles; the marks are those of `marks`.
 
 use crate::body::BodyState;
 use crate::cases::{List, Random, Step};
@@ -7,7 +7,7 @@ use crate::joint::revolute::*;
 use crate::joint::spherical::*;
 use crate::joint::weld::*;
 use crate::joint::JointUnion;
-use crate::marks::{mass_mark, report, Mark, Report, NO_REPORT};
+use crate::marks::{mass_mark, report, Mark, Report};
 use crate::math_functions::{get_swing_angle, get_twist_angle, inv_mul_quat};
 use crate::records::{self, read_joint, write_joint, Angles, BodyRecord, Joint, Kind, NO_ANGLES};
 use crate::scene::{flipped, rotations, Scene};
@@ -57,18 +57,17 @@ pub fn prepare(
     mass_mark(joint)
 }
 
-/// Warm starts a joint, which keeps its angles and works no row.
-pub fn warm_start(kind: Kind, joint: &mut Joint, states: &mut [BodyState]) -> Report {
+/// Warm starts a joint, which keeps its angles.
+pub fn warm_start(kind: Kind, joint: &mut Joint, states: &mut [BodyState]) {
     let warm_start = match kind {
         Revolute => warm_start_revolute_joint,
         Spherical => warm_start_spherical_joint,
         Weld => warm_start_weld_joint,
     };
     warm_start(joint, states);
-    NO_REPORT
 }
 
-/// Solves a joint, which stores the angles of the limit rows that are worked, and reports of its rows.
+/// Solves a joint, which stores the angles of the limit rows that are worked, and tells the marks.
 pub fn solve(
     kind: Kind,
     joint: &mut Joint,
@@ -135,33 +134,32 @@ pub fn inputs(stage: Stage, scene: &Scene) -> Vec<u32> {
     words
 }
 
-/// Takes the inputs of a stage off the front of `from` and asks the Rust. The mark of a prepare or the
-/// report comes last.
+/// Takes the inputs of a stage off the front of `from` and asks the Rust. The marks come last.
 pub fn answer(stage: Stage, kind: Kind, from: &mut &[u32]) -> Vec<u32> {
     let mut joint = read_joint(kind, from);
     let mut states = Vec::new();
-    let mut last = Vec::new();
+    let mut marks = Vec::new();
     match stage {
         Prepare => {
             let context = StepContext::read(from);
             let bodies = [BodyRecord::read(from), BodyRecord::read(from)];
-            prepare(kind, &mut joint, &context, &bodies).write(&mut last);
+            prepare(kind, &mut joint, &context, &bodies).write(&mut marks);
         }
         WarmStart => {
             states = read_states(from);
-            warm_start(kind, &mut joint, &mut states).write(&mut last);
+            warm_start(kind, &mut joint, &mut states);
         }
         Solve => {
             let context = StepContext::read(from);
             let use_bias = bool::read(from);
             states = read_states(from);
-            solve(kind, &mut joint, &context, use_bias, &mut states).write(&mut last);
+            solve(kind, &mut joint, &context, use_bias, &mut states).write(&mut marks);
         }
     }
     let mut words = Vec::new();
     write_joint(&joint, &mut words);
     write_all(&states, &mut words);
-    words.extend(last);
+    words.extend(marks);
     words
 }
 

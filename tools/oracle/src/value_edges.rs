@@ -1,6 +1,6 @@
 //! The fixed cases by value at document 01's edges: cases of the joint, indices and flags that no
 //! stage by value reads, impulses about zero, determinants at the threshold; C-11's angles at those of
-//! the limits; what `aims` brings joints to; and what the marks and the row counts go by.
+//! the limits; what `aims` brings joints to; and what the marks go by.
 
 use crate::aims::Aim;
 use crate::cases::{
@@ -15,7 +15,6 @@ use crate::math_functions::{Matrix3, Vec3};
 use crate::records::{
     joint_type, limit, limit_count, set_indices, Angles, Joint, Kind, EMPTY, KINDS,
 };
-use crate::row_edges::{set_switches, ways};
 use crate::stage_edges::two_bodies;
 use crate::stages::Stage;
 use crate::values::{case, pair, stop_case, Call, CALLS};
@@ -50,10 +49,6 @@ pub fn write(list: &mut List) -> Step {
             Stage::WarmStart => {}
             Stage::Solve => row_marks(random, call, list)?,
         }
-    }
-    let random = &mut Random::new(0, 17);
-    for call in CALLS {
-        rows(random, call, list)?;
     }
     Ok(())
 }
@@ -301,20 +296,6 @@ fn row_marks(random: &mut Random, call: Call, list: &mut List) -> Step {
             scene.joint.fixed_rotation = fixed_rotation;
             case(call, &scene, &pair(&scene), list)?;
         }
-    }
-    Ok(())
-}
-
-/// Solves, the switches in all ways, rotation fixed and not.
-fn rows(random: &mut Random, call: Call, list: &mut List) -> Step {
-    let (_, stage, called) = call;
-    if stage != Stage::Solve {
-        return Ok(());
-    }
-    for way in 0..ways(called) {
-        let mut scene = two_bodies(random, stage, called);
-        set_switches(&mut scene.joint, way);
-        case(call, &scene, &pair(&scene), list)?;
     }
     Ok(())
 }

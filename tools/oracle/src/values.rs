@@ -7,7 +7,7 @@ use crate::cases::{List, Random, Step};
 use crate::direct::other_kind;
 use crate::draw::pattern;
 use crate::joint::JointUnion;
-use crate::marks::{Mark, Report, NO_REPORT};
+use crate::marks::{Mark, NO_REPORT};
 use crate::records::{
     indices, kind_of, limit, limit_count, read_cased_joint, set_indices, write_cased_joint,
     write_joint, Angles, BodyRecord, Joint, Kind, EMPTY, KINDS,
@@ -111,7 +111,7 @@ pub fn pair(scene: &Scene) -> [BodyState; 2] {
 }
 
 /// Takes the inputs of a stage by value off the front of `from`, and asks the Rust unless it is
-/// refused. The mark of a prepare or the report comes last; a refusal has no mark and reports no row.
+/// refused. The marks of a prepare and of a solve come last; a refusal has none.
 fn answer((_, stage, called): Call, from: &mut &[u32]) -> Vec<u32> {
     let mut joint = read_cased_joint(from);
     let is_refused = kind_of(&joint) != Some(called);
@@ -135,8 +135,8 @@ fn answer((_, stage, called): Call, from: &mut &[u32]) -> Vec<u32> {
     let mut pair = [BodyState::read(from), BodyState::read(from)];
     let mut report = NO_REPORT;
     if !is_refused {
-        report = on_slice(&mut joint, &mut pair, |joint, states| match stage {
-            Solve => stages::solve(called, joint, &context, use_bias, states),
+        on_slice(&mut joint, &mut pair, |joint, states| match stage {
+            Solve => report = stages::solve(called, joint, &context, use_bias, states),
             _ => stages::warm_start(called, joint, states),
         });
     }
@@ -145,7 +145,9 @@ fn answer((_, stage, called): Call, from: &mut &[u32]) -> Vec<u32> {
         state.linear_velocity.write(&mut answer);
         state.angular_velocity.write(&mut answer);
     }
-    report.write(&mut answer);
+    if stage == Solve {
+        report.write(&mut answer);
+    }
     answer
 }
 
@@ -153,16 +155,15 @@ fn answer((_, stage, called): Call, from: &mut &[u32]) -> Vec<u32> {
 fn on_slice(
     joint: &mut Joint,
     pair: &mut [BodyState; 2],
-    work: impl FnOnce(&mut Joint, &mut [BodyState]) -> Report,
-) -> Report {
+    work: impl FnOnce(&mut Joint, &mut [BodyState]),
+) {
     let kept = indices(joint);
     set_indices(joint, [0, 1]);
     for state in pair.iter_mut() {
         state.flags = DYNAMIC_FLAG;
     }
-    let report = work(joint, pair);
+    work(joint, pair);
     set_indices(joint, kept);
-    report
 }
 
 /// What the function of a number answers to the inputs that it takes off the front of `from`.

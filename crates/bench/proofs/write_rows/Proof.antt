@@ -1,5 +1,6 @@
 -- `write_rows` is safe and ends. Assumes nothing.
-use Rattle.std.proofs.Common.{◌-◌, ◌≤◌, rules}
+use Prim.Native.Nat.{◌-◌, ◌≤◌}
+use borrow.Author.Rules.{rules}
 use Rattle.bench.proofs.write_rows.Statement.{statement}
 use Rattle.bench.proofs.write_rows.Tie as tie
 

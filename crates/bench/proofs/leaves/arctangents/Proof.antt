@@ -1,5 +1,6 @@
 -- `leaves::arctangents` is safe and ends. Assumes nothing.
-use Rattle.std.proofs.Common.{◌-◌, ◌≤◌, rules}
+use Prim.Native.Nat.{◌-◌, ◌≤◌}
+use borrow.Author.Rules.{rules}
 use Rattle.bench.proofs.leaves.arctangents.Statement.{statement}
 use Rattle.bench.proofs.leaves.arctangents.Tie as tie
 

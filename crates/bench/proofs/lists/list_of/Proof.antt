@@ -1,5 +1,8 @@
 -- `lists::list_of` is safe and ends, and the list keeps its length. Assumes nothing.
-use Rattle.std.proofs.Common.{◌≡◌, ◌-◌, ◌≤◌, length, rules}
+use mathlib.Core.Path.{◌≡◌}
+use Prim.Native.Nat.{◌-◌, ◌≤◌}
+use lib.ListN.{length}
+use borrow.Author.Rules.{rules}
 use Rattle.bench.proofs.lists.list_of.Statement.{statement}
 use Rattle.bench.proofs.lists.list_of.Tie as tie
 

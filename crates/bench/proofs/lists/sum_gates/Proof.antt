@@ -1,5 +1,6 @@
 -- `lists::sum_gates` is safe and ends. Assumes nothing.
-use Rattle.std.proofs.Common.{◌-◌, ◌≤◌, rules}
+use Prim.Native.Nat.{◌-◌, ◌≤◌}
+use borrow.Author.Rules.{rules}
 use Rattle.bench.proofs.lists.sum_gates.Statement.{statement}
 use Rattle.bench.proofs.lists.sum_gates.Tie as tie
 

@@ -31,14 +31,14 @@ cut_at_requires c κs = tt
 returns : tie.Need-returns invariant_loop decreases_loop
 returns c = tt
 
-add_next : tie.Need-overflow-add-next invariant_loop decreases_loop
-add_next c = omega arith
-
 agrees_at_requires : tie.Need-agrees-at-requires invariant_loop decreases_loop
 agrees_at_requires c κs = omega arith
 
 one_more_requires : tie.Need-one-more-requires invariant_loop decreases_loop
 one_more_requires c κs = tt
+
+add_at : tie.Need-overflow-add-at invariant_loop decreases_loop
+add_at c = omega arith
 
 loop_less : tie.Need-loop-smaller invariant_loop decreases_loop
 loop_less c = omega arith
@@ -62,9 +62,9 @@ run_cases_spec =
     sub_if1
     cut_at_requires
     returns
-    add_next
     agrees_at_requires
     one_more_requires
+    add_at
     loop_less
     loop_again
     returns_2)
