@@ -1,5 +1,7 @@
 // Works a row of the bench a number of times, and prints its checksum: `bench ROW REPEATS`. With
 // fewer arguments it works each row once, and prints for each its number and its checksum.
+#![tactic(auto)]
+
 mod leaves;
 mod lists;
 

@@ -1,5 +1,7 @@
 // The direct calls, a kind and a stage to a row: `bench_direct ROW REPEATS` prints the row's checksum.
 // With fewer arguments each row is worked once, and its number and checksum are printed.
+#![tactic(auto)]
+
 mod gate;
 mod rows;
 

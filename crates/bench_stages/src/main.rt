@@ -1,5 +1,7 @@
 // The stages by value, a kind and a stage to a row: `bench_stages ROW REPEATS` prints the row's
 // checksum. With fewer arguments each row is worked once, and its number and checksum are printed.
+#![tactic(auto)]
+
 mod gates;
 mod prepared;
 mod revolute_rows;

@@ -1,4 +1,6 @@
 // A call list, run on a scene. The whole list is checked before anything runs.
+#![tactic(auto)]
+
 ghost use Rattle.std.specs.Prelude.{◌≡◌, ◌≤◌};
 ghost use Rattle.scene.specs.Plain.{same_below, plain_run};
 

@@ -1,6 +1,8 @@
 // The direct calls: a joint that is lent to be changed in place, and body states in a lent slice. Each
 // makes its tests, works the stage of its own kind on copies, and stores what the stage changed. One that
 // is refused stores nothing.
+#![tactic(auto)]
+
 ghost use Rattle.direct.specs.Direct as D;
 
 use crate::positions::find_positions;

@@ -1,5 +1,7 @@
 // Runs document 01's sixteen examples through the compiled functions, and prints how many there are
 // and how many of them differ. What is proved of them is the theorem in proofs/Examples.antt.
+#![tactic(auto)]
+
 mod joints;
 mod leaves;
 mod scenes;

@@ -1,5 +1,7 @@
 // A joint of any kind: its prepare, the bodies that it names, and the states of its bodies once a
 // stage's velocities are stored.
+#![tactic(auto)]
+
 pub mod index;
 pub mod prepare;
 pub mod store;

@@ -4,6 +4,8 @@
 // The first call stands before the loop. So a direct call has two callers where a program makes it by
 // these functions alone, and stays a call, as it does in the Rust. As a part of the loop it would not be
 // worked whole each time, since what no call changes would be read before the loop.
+#![tactic(auto)]
+
 ghost use Rattle.std.specs.Prelude.{◌≡◌, min};
 ghost use Rattle.direct.specs.Direct as D;
 ghost use Rattle.lent_calls.specs.Lent as L;

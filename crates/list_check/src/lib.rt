@@ -1,4 +1,6 @@
 // The tests of a run, made on the whole list before anything runs.
+#![tactic(auto)]
+
 ghost use Rattle.std.specs.Prelude.{◌≡◌, leb};
 ghost use Rattle.records.specs.Joint.{is_other};
 ghost use Rattle.scene.specs.Plain.{joint_cause, stage_cause, early_cause, verdict};

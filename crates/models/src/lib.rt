@@ -1,5 +1,7 @@
 // The models that the programs run: a door on its hinge, a hip in its socket, and a strut welded to its
 // pier.
+#![tactic(auto)]
+
 ghost use Rattle.std.specs.Prelude.{◌≡◌};
 ghost use Rattle.joint.specs.Prepare.{prepare_joint};
 

@@ -1,6 +1,8 @@
 // What a guide's panel shows. A door on its hinge, a hip in its socket and a strut welded to its pier
 // stand in one scene; their joints are prepared, a list of calls is run, and velocities, pushes, stops
 // and still are printed. Then a wall of gates is worked in two orders, with the same lines.
+#![tactic(auto)]
+
 mod print;
 mod wall;
 

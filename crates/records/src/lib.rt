@@ -1,5 +1,7 @@
 // The records that joints and bodies are kept in, with the Rust's names and order of fields. Where
 // one is cut in two or stands for several, its comment says so.
+#![tactic(auto)]
+
 pub mod body;
 pub mod joint;
 

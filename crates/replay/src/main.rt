@@ -2,6 +2,8 @@
 // how many there are, and in how many of them the library's answer is not the recorded one, the stored
 // angles and the marks left aside; then how many stored angles were compared, and how many of them differ;
 // then the same of the marks.
+#![tactic(auto)]
+
 mod agreement;
 mod cases;
 mod compare;

@@ -1,4 +1,6 @@
 // The rows that a solve works, counted from the joint's switches and fixed rotation.
+#![tactic(auto)]
+
 ghost use Rattle.std.specs.Prelude.{◌≡◌};
 ghost use Rattle.row_count.specs.RowCount as D;
 

@@ -1,5 +1,7 @@
 // A scene, and what a run of a call list on it answers. What a run answers is defined in specs/, and
 // what holds of every run is stated in specs/Claims.antt.
+#![tactic(auto)]
+
 ghost use Rattle.std.specs.Prelude.{◌≡◌};
 ghost use Rattle.scene.specs.Scene as D;
 

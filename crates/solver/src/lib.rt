@@ -1,4 +1,6 @@
 // Soft constraint coefficients, and the step context.
+#![tactic(auto)]
+
 ghost use Rattle.std.specs.Prelude.{◌≡◌};
 ghost use Rattle.solver.specs.Solver as D;
 

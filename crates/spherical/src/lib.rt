@@ -1,6 +1,8 @@
 // The spherical joint: a ball in its socket, with a spring, a motor, a twist limit and a cone. Its
 // three stages, over a joint of any kind. Prepare and solve put their answers together themselves:
 // made by a call, as the warm start's, they would be copied once more.
+#![tactic(auto)]
+
 ghost use Rattle.std.specs.Prelude.{◌≡◌};
 ghost use Rattle.records.specs.Joint.{joint_sim};
 ghost use Rattle.records.specs.declared.joint.JointUnion.TheVariants.{Spherical};

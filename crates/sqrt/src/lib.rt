@@ -1,4 +1,6 @@
 // The square root of an `f32`, rounded to the nearest `f32`, as IEEE 754 has it.
+#![tactic(auto)]
+
 ghost use Rattle.std.specs.Prelude.{◌≡◌, ◌+◌, ◌*◌, ◌%◌, ◌^◌, ◌<◌, ◌≤◌, from_bits};
 ghost use Rattle.std.specs.Float.{binary32};
 ghost use Rattle.sqrt.specs.Sqrt as D;

@@ -1,4 +1,6 @@
 // The stops at which a joint's parts have arrived and are pushed back, read off the joint alone.
+#![tactic(auto)]
+
 ghost use Rattle.std.specs.Prelude.{◌≡◌};
 ghost use Rattle.stop_code.specs.StopCode as D;
 

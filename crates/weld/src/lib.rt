@@ -2,6 +2,8 @@
 // relative position and orientation of two frames. Its three stages, over a joint of any kind. Prepare
 // and solve put their answers together themselves: made by a call, as the warm start's, they would be
 // copied once more.
+#![tactic(auto)]
+
 ghost use Rattle.std.specs.Prelude.{◌≡◌};
 ghost use Rattle.records.specs.Joint.{joint_sim};
 ghost use Rattle.records.specs.declared.joint.JointUnion.TheVariants.{Weld};
