@@ -8,7 +8,7 @@ use records::joint::JointSim;
 use solver::StepContext;
 
 // The joint, the states of the first three gates, which are lent, and the wall's step context.
-#[derive(Drop)]
+#[derive(Clone, Copy)]
 pub struct Gate {
     pub joint: JointSim,
     pub states: [BodyState; 40],

@@ -25,7 +25,7 @@ fn call_count(list: &[u8]) -> usize
 }
 
 // Two bytes of a list.
-#[derive(Drop)]
+#[derive(Clone, Copy)]
 struct Call {
     slot: u8,
     stage: u8,

@@ -8,7 +8,7 @@ use records::joint::{JointSim, JointUnion};
 use scene::Scene;
 
 // The positions of a joint's two bodies in an array that ends with the identity state.
-#[derive(Drop)]
+#[derive(Clone, Copy)]
 pub struct Positions {
     pub at_a: usize,
     pub at_b: usize,

@@ -11,21 +11,21 @@ use math_functions::types::{Matrix3, Quat, Vec3, nan};
 use math_functions::vector::{add, dot, sub};
 
 // What a row of one dimension leaves: its impulse, and the velocities.
-#[derive(Drop)]
+#[derive(Clone, Copy)]
 pub struct AxialRow {
     pub impulse: f32,
     pub velocities: Velocities,
 }
 
 // What a row of three dimensions leaves.
-#[derive(Drop)]
+#[derive(Clone, Copy)]
 pub struct Row3 {
     pub impulse: Vec3,
     pub velocities: Velocities,
 }
 
 // What a pair of limit rows leaves.
-#[derive(Drop)]
+#[derive(Clone, Copy)]
 pub struct LimitRows {
     pub lower_impulse: f32,
     pub upper_impulse: f32,

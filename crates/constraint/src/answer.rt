@@ -12,7 +12,7 @@ use records::joint::JointSim;
 pub const WRONG_KIND: u32 = 1;
 
 // `mass_mark` is that of spherical's rotation mass and of weld's angular mass, where it is inverted.
-#[derive(Drop)]
+#[derive(Clone, Copy)]
 pub struct Prepared {
     pub number: u32,
     pub place: u32,
@@ -20,7 +20,7 @@ pub struct Prepared {
     pub mass_mark: Mark,
 }
 
-#[derive(Drop)]
+#[derive(Clone, Copy)]
 pub struct WarmStarted {
     pub number: u32,
     pub place: u32,
@@ -29,7 +29,7 @@ pub struct WarmStarted {
 }
 
 // What a solve reports of its rows: the marks of revolute's perpendicular row and of the point row.
-#[derive(Drop)]
+#[derive(Clone, Copy)]
 pub struct Report {
     pub perp_mark: Mark,
     pub point_mark: Mark,
@@ -41,7 +41,7 @@ pub const NO_REPORT: Report = Report {
     point_mark: Mark::None,
 };
 
-#[derive(Drop)]
+#[derive(Clone, Copy)]
 pub struct Solved {
     pub number: u32,
     pub place: u32,

@@ -10,7 +10,7 @@ use math_functions::vector::{add, cross, sub};
 use solver::Softness;
 
 // What a point row leaves, and the mark of its matrix.
-#[derive(Drop)]
+#[derive(Clone, Copy)]
 pub struct PointRow {
     pub impulse: Vec3,
     pub velocities: Velocities,

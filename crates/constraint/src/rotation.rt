@@ -5,7 +5,7 @@ ghost use Rattle.constraint.specs.Rotation as D;
 use math_functions::quat::{dot_quat, inv_mul_quat, mul_quat, negate_quat};
 use math_functions::types::Quat;
 
-#[derive(Drop)]
+#[derive(Clone, Copy)]
 pub struct RelativeRotation {
     pub quat_a: Quat,
     pub rel_q: Quat,

@@ -9,21 +9,21 @@ use math_functions::types::{VEC2_ZERO, VEC3_ZERO, Vec2, Vec3};
 use math_functions::vector::{mul_sub, mul_sv, sub};
 use solver::Softness;
 
-#[derive(Drop)]
+#[derive(Clone, Copy)]
 pub struct SoftBias {
     pub bias: f32,
     pub mass_scale: f32,
     pub impulse_scale: f32,
 }
 
-#[derive(Drop)]
+#[derive(Clone, Copy)]
 pub struct SoftBias2 {
     pub bias: Vec2,
     pub mass_scale: f32,
     pub impulse_scale: f32,
 }
 
-#[derive(Drop)]
+#[derive(Clone, Copy)]
 pub struct SoftBias3 {
     pub bias: Vec3,
     pub mass_scale: f32,

@@ -10,7 +10,7 @@ use records::body::BodyState;
 use records::joint::JointBase;
 
 // The velocities of a joint's two bodies.
-#[derive(Drop)]
+#[derive(Clone, Copy)]
 pub struct Velocities {
     pub v_a: Vec3,
     pub w_a: Vec3,
@@ -19,7 +19,7 @@ pub struct Velocities {
 }
 
 // The inverse masses and the inverse inertias of a joint's two bodies.
-#[derive(Drop)]
+#[derive(Clone, Copy)]
 pub struct InvMasses {
     pub m_a: f32,
     pub m_b: f32,

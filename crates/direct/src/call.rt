@@ -3,7 +3,7 @@ use solver::StepContext;
 
 // The kind, by the number of the joint's case; the stage as a call list has it (0 warm start, 1 solve
 // with bias, 2 solve without); and the step context, which a warm start does not read.
-#[derive(Drop)]
+#[derive(Clone, Copy)]
 pub struct StageCall {
     pub kind: u8,
     pub stage: u8,

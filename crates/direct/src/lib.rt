@@ -18,7 +18,7 @@ mod states;
 
 // What a direct call answers: a number, which is 0 where the work was done, place 0, and what a solve
 // reports of its rows.
-#[derive(Drop)]
+#[derive(Clone, Copy)]
 pub struct Answer {
     pub number: u32,
     pub place: u32,

@@ -9,7 +9,7 @@ use joint::index::{index_cause, indices_of};
 use records::joint::{JointSim, JointUnion};
 
 // The answer, and the positions of the two states among n, where n is the position of none.
-#[derive(Drop)]
+#[derive(Clone, Copy)]
 pub struct Positions {
     pub answer: Answer,
     pub a: usize,

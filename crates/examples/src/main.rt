@@ -12,7 +12,7 @@ use leaves::{is_1, is_2, is_3, is_4, is_5, is_6, is_7, is_8, is_9, is_10, is_11,
 use libc::STDOUT_FILENO;
 
 // How many examples ran, and how many of them differed.
-#[derive(Drop)]
+#[derive(Clone, Copy)]
 struct Tally {
     run: u64,
     differing: u64,

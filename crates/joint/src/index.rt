@@ -6,7 +6,7 @@ use records::NULL_INDEX;
 use records::joint::JointUnion;
 
 // The two body indices of a joint.
-#[derive(Drop)]
+#[derive(Clone, Copy)]
 pub struct Indices {
     pub a: i32,
     pub b: i32,

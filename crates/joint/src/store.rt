@@ -5,7 +5,7 @@ ghost use Rattle.joint.specs.Store as D;
 use constraint::velocity::Velocities;
 use records::body::{BodyState, store_velocities};
 
-#[derive(Drop)]
+#[derive(Clone, Copy)]
 pub struct StatePair {
     pub state_a: BodyState,
     pub state_b: BodyState,

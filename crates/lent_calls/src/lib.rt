@@ -20,7 +20,7 @@ use records::joint::JointSim;
 use solver::StepContext;
 
 // What the last call answered (number 0, place 0 and no mark where there was none), and what the calls left.
-#[derive(Drop)]
+#[derive(Clone, Copy)]
 pub struct Lent {
     pub answer: Answer,
     pub joint: JointSim,

@@ -1,6 +1,6 @@
 -- Which numbers the source's constants are. A literal is the binary32 float nearest to its decimal (`..-decimal`), and that float is the number
 -- m * 2 ^ e (`..-is`, where `fin false m (negsuc k)` is m * 2 ^ -(k + 1)). Assumes nothing.
-use Rattle.core.specs.Prelude.{◌≡◌, false, pos, negsuc}
+use Rattle.std.specs.Prelude.{◌≡◌, false, pos, negsuc}
 use mathlib.Core.Path.{refl}
 use lib.Ieee as Ieee
 use lib.Ieee.{fin}

@@ -1,5 +1,5 @@
 -- What holds of the leaves for every float, a NaN too: the clamp, and comparisons with zero and with the threshold. Assumes nothing.
-use Rattle.core.specs.Prelude.{◌≡◌, ℕ, ◌+◌, ◌*◌, ◌<◌, Bool, true, false, cond, eqb, ltb}
+use Rattle.std.specs.Prelude.{◌≡◌, ℕ, ◌+◌, ◌*◌, ◌<◌, Bool, true, false, cond, eqb, ltb}
 use mathlib.Core.Path.{refl, sym, ap, ◌∙◌}
 use mathlib.Core.Bool.{false≢true, and-eq-true_iff}
 use native.Mathlib.Omega.{arith}

@@ -1,5 +1,5 @@
 -- The claims of specs/Claims.antt on marks, proved, each under its statement's name in small letters. Assumes nothing.
-use Rattle.core.specs.Prelude.{◌≡◌, Bool, true, false, cond}
+use Rattle.std.specs.Prelude.{◌≡◌, Bool, true, false, cond}
 use mathlib.Core.Path.{refl, ap, ◌∙◌}
 use lib.Ieee as Ieee
 use lib.Ieee.{Float, nan}

@@ -1,6 +1,6 @@
 -- What holds of a mark, and of the marks of `solve2`, `solve3` and `invert_matrix`, in C-15's words. Statements only: each is proved in proofs/Marks.antt,
 -- under the same name in small letters. Assumes nothing.
-use Rattle.core.specs.Prelude.{◌≡◌, Bool, true}
+use Rattle.std.specs.Prelude.{◌≡◌, Bool, true}
 use Rattle.std.specs.Float.{nan}
 use Rattle.math_functions.specs.declared.mark.Mark.{Mark}
 use Rattle.math_functions.specs.declared.mark.Mark.TheVariants.{FellBack}

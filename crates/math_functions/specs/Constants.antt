@@ -1,5 +1,5 @@
 -- Decimals as floats of binary32: by these a literal, or a figure of a model, is given. Definitions only. Assumes nothing.
-use Rattle.core.specs.Prelude.{ℕ, ◌^◌, false}
+use Rattle.std.specs.Prelude.{ℕ, ◌^◌, false}
 use Rattle.std.specs.Float.Ieee as Ieee
 use Rattle.std.specs.Prelude.{Float}
 use Rattle.std.specs.Float.{binary32}

@@ -1,6 +1,6 @@
 -- Rust's operators on `f32`, by the logic's IEEE 754 at binary32: each operation is rounded once, to the nearest, ties to even, and none is fused with another.
 -- Every NaN is one value, `nan`. Definitions only. Assumes nothing.
-use Rattle.core.specs.Prelude.{ℕ, Bool}
+use Rattle.std.specs.Prelude.{ℕ, Bool}
 use Rattle.std.specs.Float.Ieee as Ieee
 use Rattle.std.specs.Prelude.{Float}
 use Rattle.std.specs.Float.{binary32}

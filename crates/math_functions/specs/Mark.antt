@@ -1,5 +1,5 @@
 -- C-15's mark: whether a leaf solved its matrix or fell back to zeros. Definitions only. Assumes nothing.
-use Rattle.core.specs.Prelude.{◌≡◌, Bool, true, false, cond}
+use Rattle.std.specs.Prelude.{◌≡◌, Bool, true, false, cond}
 use Rattle.math_functions.specs.declared.mark.Mark.{Mark}
 use Rattle.math_functions.specs.declared.mark.Mark.TheVariants.{None, Solved, FellBack}
 

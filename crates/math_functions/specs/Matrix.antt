@@ -1,5 +1,5 @@
 -- math_functions/matrix.rs: 3x3 matrices by columns, and the 2x2 matrix of the revolute joint. Definitions only. Assumes nothing.
-use Rattle.core.specs.Prelude.{Bool, true, cond}
+use Rattle.std.specs.Prelude.{Bool, true, cond}
 use Rattle.std.specs.Prelude.{Float}
 use Rattle.math_functions.specs.declared.types.Vec2.{Vec2}
 use Rattle.math_functions.specs.declared.types.Vec3.{Vec3}

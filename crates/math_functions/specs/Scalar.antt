@@ -1,5 +1,5 @@
 -- math_functions/scalar.rs: absolute value, minimum, maximum, clamp, arctangent. Definitions only. Assumes nothing.
-use Rattle.core.specs.Prelude.{cond, ◌&&◌}
+use Rattle.std.specs.Prelude.{cond, ◌&&◌}
 use Rattle.std.specs.Prelude.{Float}
 use Rattle.math_functions.specs.Float.{◌⊕◌, ◌⊖◌, ◌⊗◌, ◌⊘◌, neg, lt, gt, eq, lit, zero}
 

@@ -1,5 +1,5 @@
 -- Steps of the code that the Rust has inside its functions. No definition that is written from the Rust cites them. Definitions only. Assumes nothing.
-use Rattle.core.specs.Prelude.{cond}
+use Rattle.std.specs.Prelude.{cond}
 use Rattle.std.specs.Prelude.{Float}
 use Rattle.math_functions.specs.declared.types.Quat.{Quat}
 use Rattle.math_functions.specs.Float.{◌⊖◌, ◌⊘◌, gt}

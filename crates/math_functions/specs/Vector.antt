@@ -1,5 +1,5 @@
 -- math_functions/vector.rs: arithmetic on Vec3. Definitions only. Assumes nothing.
-use Rattle.core.specs.Prelude.{cond}
+use Rattle.std.specs.Prelude.{cond}
 use Rattle.std.specs.Prelude.{Float}
 use Rattle.sqrt.specs.Sqrt.{sqrt}
 use Rattle.math_functions.specs.declared.types.Vec3.{Vec3}

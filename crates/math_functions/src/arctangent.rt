@@ -1,5 +1,5 @@
 // What the arctangent and the swing angle share.
-ghost use Rattle.core.specs.Prelude.{◌≡◌};
+ghost use Rattle.std.specs.Prelude.{◌≡◌};
 ghost use Rattle.math_functions.specs.Steps as Steps;
 
 use crate::scalar::{max_float, min_float};

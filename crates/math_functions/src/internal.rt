@@ -1,5 +1,5 @@
 // Vec2 arithmetic.
-ghost use Rattle.core.specs.Prelude.{◌≡◌};
+ghost use Rattle.std.specs.Prelude.{◌≡◌};
 ghost use Rattle.math_functions.specs.Internal as D;
 
 use crate::types::Vec2;

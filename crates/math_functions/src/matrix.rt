@@ -1,5 +1,5 @@
 // Matrix3 operations and the 2x2 matrix of the revolute joint.
-ghost use Rattle.core.specs.Prelude.{◌≡◌};
+ghost use Rattle.std.specs.Prelude.{◌≡◌};
 ghost use Rattle.math_functions.specs.Matrix as D;
 
 use crate::mark::Mark;
@@ -8,26 +8,26 @@ use crate::types::{MAT3_ZERO, MIN_POSITIVE, Matrix3, VEC3_ZERO, Vec2, Vec3};
 use crate::vector::{add, cross, dot, neg};
 
 // A 2x2 matrix, stored as columns.
-#[derive(Drop)]
+#[derive(Clone, Copy)]
 pub struct Mat2 {
     pub cx: Vec2,
     pub cy: Vec2,
 }
 
 // What a leaf that may fall back to zeros answers: its value, and whether it was solved or fell back.
-#[derive(Drop)]
+#[derive(Clone, Copy)]
 pub struct MarkedVec2 {
     pub value: Vec2,
     pub mark: Mark,
 }
 
-#[derive(Drop)]
+#[derive(Clone, Copy)]
 pub struct MarkedVec3 {
     pub value: Vec3,
     pub mark: Mark,
 }
 
-#[derive(Drop)]
+#[derive(Clone, Copy)]
 pub struct MarkedMatrix3 {
     pub value: Matrix3,
     pub mark: Mark,

@@ -1,5 +1,5 @@
 // Quaternion operations.
-ghost use Rattle.core.specs.Prelude.{◌≡◌, false};
+ghost use Rattle.std.specs.Prelude.{◌≡◌, false};
 ghost use Rattle.math_functions.specs.Float.{lt, zero};
 ghost use Rattle.math_functions.specs.Quat as D;
 ghost use Rattle.math_functions.specs.Scalar as Scalar;

@@ -1,5 +1,5 @@
 // Scalars: absolute value, minimum, maximum, clamp, and the arctangent.
-ghost use Rattle.core.specs.Prelude.{◌≡◌};
+ghost use Rattle.std.specs.Prelude.{◌≡◌};
 ghost use Rattle.math_functions.specs.Scalar as D;
 
 use crate::arctangent::first_quadrant_angle;

@@ -1,5 +1,5 @@
 // World positions.
-ghost use Rattle.core.specs.Prelude.{◌≡◌};
+ghost use Rattle.std.specs.Prelude.{◌≡◌};
 ghost use Rattle.math_functions.specs.Transform as D;
 
 use crate::types::{Pos, Vec3};

@@ -1,16 +1,16 @@
 // Math types and constants.
-ghost use Rattle.core.specs.Prelude.{◌≡◌};
+ghost use Rattle.std.specs.Prelude.{◌≡◌};
 ghost use Rattle.std.specs.Float.Ieee as Ieee;
 
 // A 2D vector.
-#[derive(Drop)]
+#[derive(Clone, Copy)]
 pub struct Vec2 {
     pub x: f32,
     pub y: f32,
 }
 
 // A 3D vector.
-#[derive(Drop)]
+#[derive(Clone, Copy)]
 pub struct Vec3 {
     pub x: f32,
     pub y: f32,
@@ -18,14 +18,14 @@ pub struct Vec3 {
 }
 
 // A quaternion.
-#[derive(Drop)]
+#[derive(Clone, Copy)]
 pub struct Quat {
     pub v: Vec3,
     pub s: f32,
 }
 
 // A rigid transform.
-#[derive(Drop)]
+#[derive(Clone, Copy)]
 pub struct Transform {
     pub p: Vec3,
     pub q: Quat,
@@ -35,7 +35,7 @@ pub struct Transform {
 pub type Pos = Vec3;
 
 // A 3x3 matrix, stored as columns.
-#[derive(Drop)]
+#[derive(Clone, Copy)]
 pub struct Matrix3 {
     pub cx: Vec3,
     pub cy: Vec3,

@@ -1,5 +1,5 @@
 // Vec3 arithmetic, length and normalize.
-ghost use Rattle.core.specs.Prelude.{◌≡◌};
+ghost use Rattle.std.specs.Prelude.{◌≡◌};
 ghost use Rattle.math_functions.specs.Vector as D;
 
 use crate::types::{MIN_POSITIVE, Vec3};

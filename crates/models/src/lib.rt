@@ -19,7 +19,7 @@ pub mod strut;
 
 // A joint before prepare, and what prepare reads of its two bodies. The figures are an example's;
 // specs/ has each of them.
-#[derive(Drop)]
+#[derive(Clone, Copy)]
 pub struct Model {
     pub joint: JointSim,
     pub body_a: BodyRecord,

@@ -8,7 +8,7 @@ use math_functions::types::{Matrix3, Pos, QUAT_IDENTITY, Quat, VEC3_ZERO, Vec3};
 pub const DYNAMIC_FLAG: u32 = 0x0000_1000;
 
 // The part of a body that a joint's stages read and write.
-#[derive(Drop)]
+#[derive(Clone, Copy)]
 pub struct BodyState {
     pub linear_velocity: Vec3,
     pub angular_velocity: Vec3,
@@ -34,7 +34,7 @@ pub const IDENTITY_BODY_STATE: BodyState = BodyState {
 
 // What prepare reads of a body: of the Rust's Body the set and the index in it, of its BodySim the
 // rest (`rotation` is transform.q).
-#[derive(Drop)]
+#[derive(Clone, Copy)]
 pub struct BodyRecord {
     pub set_index: i32,
     pub local_index: i32,

@@ -14,7 +14,7 @@ use math_functions::types::{
 use solver::{NO_SOFTNESS, Softness};
 
 // Joint type enumeration.
-#[derive(Drop)]
+#[derive(Clone, Copy)]
 pub enum JointType {
     Parallel,
     Distance,
@@ -27,7 +27,7 @@ pub enum JointType {
     Wheel,
 }
 
-#[derive(Drop)]
+#[derive(Clone, Copy)]
 pub struct RevoluteJoint {
     pub linear_impulse: Vec3,
     pub perp_impulse: Vec2,
@@ -97,7 +97,7 @@ pub fn default_revolute_joint() -> RevoluteJoint
     DEFAULT_REVOLUTE_JOINT
 }
 
-#[derive(Drop)]
+#[derive(Clone, Copy)]
 pub struct SphericalJoint {
     pub linear_impulse: Vec3,
     pub spring_impulse: Vec3,
@@ -172,7 +172,7 @@ pub fn default_spherical_joint() -> SphericalJoint
     DEFAULT_SPHERICAL_JOINT
 }
 
-#[derive(Drop)]
+#[derive(Clone, Copy)]
 pub struct WeldJoint {
     pub linear_hertz: f32,
     pub linear_damping_ratio: f32,
@@ -218,7 +218,7 @@ pub fn default_weld_joint() -> WeldJoint
 }
 
 // The joint's kind with its record. The kinds that are not ported share one empty case.
-#[derive(Drop)]
+#[derive(Clone, Copy)]
 pub enum JointUnion {
     Revolute(RevoluteJoint),
     Spherical(SphericalJoint),
@@ -227,7 +227,7 @@ pub enum JointUnion {
 }
 
 // The base joint simulation class, all but the union.
-#[derive(Drop)]
+#[derive(Clone, Copy)]
 pub struct JointBase {
     pub joint_id: i32,
 
@@ -259,7 +259,7 @@ pub struct JointBase {
 // The angles at which the last solve worked the joint's limits: the twist angle of a revolute joint's
 // limit or a spherical one's twist limit, the swing angle of its cone. NaN where it did not work that
 // row, where the kind has no such row, and in both where no solve was since the prepare.
-#[derive(Drop)]
+#[derive(Clone, Copy)]
 pub struct LimitAngles {
     pub twist: f32,
     pub swing: f32,
@@ -276,7 +276,7 @@ pub fn no_angles() -> LimitAngles
 
 // A joint: the Rust's JointSim in two parts, since the rows read the first part of every kind, and
 // beside it the two angles, which the Rust does not keep.
-#[derive(Drop)]
+#[derive(Clone, Copy)]
 pub struct JointSim {
     pub base: JointBase,
     pub union_: JointUnion,

@@ -5,7 +5,7 @@
 // to hold them to.
 use std::num::wrapping_add_u64;
 
-#[derive(Drop)]
+#[derive(Clone, Copy)]
 pub struct Agreement {
     // Whether the answer is the recorded one, angles and marks left aside.
     pub same: bool,

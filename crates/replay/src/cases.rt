@@ -13,7 +13,7 @@ use crate::{
 const ROOM: usize = 65536;
 
 // What the cases of a block came to.
-#[derive(Drop)]
+#[derive(Clone, Copy)]
 pub struct Block {
     // How many bytes they take: more than the block has, where the last is too long for the buffer.
     pub used: usize,

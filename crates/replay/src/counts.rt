@@ -2,7 +2,7 @@
 use crate::agreement::{Agreement, nothing_apart, one_unless};
 use std::num::wrapping_add_u64;
 
-#[derive(Drop)]
+#[derive(Clone, Copy)]
 pub struct Counts {
     // Cases, and those whose answer differs, the stored angles and the marks left aside.
     pub run: u64,

@@ -38,7 +38,7 @@ use counts::{Counts, no_cases, one_not_run, sum};
 use libc::{STDIN_FILENO, STDOUT_FILENO};
 
 // What the cases came to, and how far the input has been.
-#[derive(Drop)]
+#[derive(Clone, Copy)]
 struct State {
     counts: Counts,
     // The bytes at the start of the buffer, of a case that is not whole yet.

@@ -20,7 +20,7 @@ use records::joint::JointSim;
 use solver::StepContext;
 
 // Where a case with states has its parts. The marks, of a solve, are the last.
-#[derive(Drop)]
+#[derive(Clone, Copy)]
 struct Parts {
     count: u32,
     states: usize,

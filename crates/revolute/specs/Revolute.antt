@@ -1,6 +1,6 @@
 -- joint/revolute.rs: prepare, warm start and solve of a revolute joint. Definitions only. Assumes nothing.
 use Rattle.std.specs.Prelude.{Bool, not, cond, Float}
-use Rattle.std.proofs.Math.Option.{Option·elim}
+use Rattle.std.proofs.Math.Option.{Option-elim}
 use Rattle.std.specs.Float.{nan}
 use Rattle.math_functions.specs.declared.types.Vec2.{Vec2}
 use Rattle.math_functions.specs.declared.types.Vec3.{Vec3}
@@ -289,18 +289,18 @@ solve_revolute base j h inv_h state_a state_b use_bias =
 -- of the context h and enable_warm_starting. C-11: 'prepare stores NaN in both'. C-15: no mass is inverted
 unfoldable pub prepare_revolute_joint : JointSim → StepContext → BodyRecord → BodyRecord → Prepared
 prepare_revolute_joint sim context body_a body_b =
-    Option·elim (as_revolute sim.union_) (not_prepared sim) λ j.
+    Option-elim (as_revolute sim.union_) (not_prepared sim) λ j.
     let delta_center = sub_pos body_b.center body_a.center in
     let r = prepare_revolute sim.base j context.h context.enable_warm_starting delta_center body_a body_b in
     prepared (joint_sim r.base (Revolute r.joint) no_angles) no_mark
 
 unfoldable pub warm_start_revolute_joint : JointSim → BodyState → BodyState → WarmStarted
 warm_start_revolute_joint sim state_a state_b =
-    Option·elim (as_revolute sim.union_) (not_warm_started sim state_a state_b) λ j. warm_started sim (warm_start_revolute sim.base j state_a state_b)
+    Option-elim (as_revolute sim.union_) (not_warm_started sim state_a state_b) λ j. warm_started sim (warm_start_revolute sim.base j state_a state_b)
 
 -- of the context h and inv_h
 unfoldable pub solve_revolute_joint : JointSim → StepContext → BodyState → BodyState → Bool → Solved
 solve_revolute_joint sim context state_a state_b use_bias =
-    Option·elim (as_revolute sim.union_) (not_solved sim state_a state_b) λ j.
+    Option-elim (as_revolute sim.union_) (not_solved sim state_a state_b) λ j.
     let r = solve_revolute sim.base j context.h context.inv_h state_a state_b use_bias in
     solved (after_solve sim (Revolute r.joint) r.angles) r.velocities r.report

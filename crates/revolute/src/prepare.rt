@@ -14,7 +14,7 @@ use records::joint::{JointBase, RevoluteJoint};
 use solver::make_soft;
 
 // What prepare leaves.
-#[derive(Drop)]
+#[derive(Clone, Copy)]
 pub struct RevolutePrepared {
     pub base: JointBase,
     pub joint: RevoluteJoint,

@@ -23,7 +23,7 @@ use solver::Softness;
 
 // What the perpendicular row leaves: its impulse, the two axes that a warm start applies it about,
 // the velocities, and the mark of its matrix.
-#[derive(Drop)]
+#[derive(Clone, Copy)]
 pub struct PerpRow {
     pub perp_impulse: Vec2,
     pub perp_axis_x: Vec3,

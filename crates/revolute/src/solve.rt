@@ -18,7 +18,7 @@ use records::joint::{JointBase, LimitAngles, RevoluteJoint};
 use solver::Softness;
 
 // What a solve leaves.
-#[derive(Drop)]
+#[derive(Clone, Copy)]
 pub struct RevoluteSolved {
     pub joint: RevoluteJoint,
     pub angles: LimitAngles,

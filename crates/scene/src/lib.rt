@@ -11,7 +11,7 @@ use solver::StepContext;
 
 // At most 32 joints and 32 bodies, with a count of each, and one step context. A count is whatever
 // the caller hands over; a joint's slot is its index in `joints`.
-#[derive(Drop)]
+#[derive(Clone, Copy)]
 pub struct Scene {
     pub joints: [JointSim; 32],
     pub bodies: [BodyState; 32],
@@ -21,14 +21,14 @@ pub struct Scene {
 }
 
 // The first cause of a refusal and its place, or 0 and 0.
-#[derive(Drop)]
+#[derive(Clone, Copy)]
 pub struct Verdict {
     pub number: u32,
     pub place: u32,
 }
 
 // What a run answers.
-#[derive(Drop)]
+#[derive(Clone, Copy)]
 pub struct Run {
     pub number: u32,
     pub place: u32,

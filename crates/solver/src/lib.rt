@@ -7,7 +7,7 @@ ghost use Rattle.solver.specs.Solver as D;
 use math_functions::types::PI;
 
 // Soft constraint coefficients.
-#[derive(Drop)]
+#[derive(Clone, Copy)]
 pub struct Softness {
     pub bias_rate: f32,
     pub mass_scale: f32,
@@ -43,7 +43,7 @@ pub fn make_soft(hertz: f32, zeta: f32, h: f32) -> Softness
 }
 
 // Context for a time step.
-#[derive(Drop)]
+#[derive(Clone, Copy)]
 pub struct StepContext {
     // time step
     pub dt: f32,

@@ -1,6 +1,6 @@
 -- joint/spherical.rs: prepare, warm start and solve of a ball joint. Definitions only. Assumes nothing.
 use Rattle.std.specs.Prelude.{Bool, not, cond, Float}
-use Rattle.std.proofs.Math.Option.{Option·elim}
+use Rattle.std.proofs.Math.Option.{Option-elim}
 use Rattle.sqrt.specs.Sqrt.{sqrt}
 use Rattle.math_functions.specs.declared.types.Vec3.{Vec3}
 use Rattle.math_functions.specs.declared.types.Quat.{Quat}
@@ -268,18 +268,18 @@ solve_spherical base j h inv_h state_a state_b use_bias =
 -- of the context h and enable_warm_starting. C-11: 'prepare stores NaN in both'. C-15: the rotation mass's mark is passed on
 unfoldable pub prepare_spherical_joint : JointSim → StepContext → BodyRecord → BodyRecord → Prepared
 prepare_spherical_joint sim context body_a body_b =
-    Option·elim (as_spherical sim.union_) (not_prepared sim) λ j.
+    Option-elim (as_spherical sim.union_) (not_prepared sim) λ j.
     let delta_center = sub_pos body_b.center body_a.center in
     let r = prepare_spherical sim.base j context.h context.enable_warm_starting delta_center body_a body_b in
     prepared (joint_sim r.base (Spherical r.joint) no_angles) r.mass_mark
 
 unfoldable pub warm_start_spherical_joint : JointSim → BodyState → BodyState → WarmStarted
 warm_start_spherical_joint sim state_a state_b =
-    Option·elim (as_spherical sim.union_) (not_warm_started sim state_a state_b) λ j. warm_started sim (warm_start_spherical sim.base j state_a state_b)
+    Option-elim (as_spherical sim.union_) (not_warm_started sim state_a state_b) λ j. warm_started sim (warm_start_spherical sim.base j state_a state_b)
 
 -- of the context h and inv_h
 unfoldable pub solve_spherical_joint : JointSim → StepContext → BodyState → BodyState → Bool → Solved
 solve_spherical_joint sim context state_a state_b use_bias =
-    Option·elim (as_spherical sim.union_) (not_solved sim state_a state_b) λ j.
+    Option-elim (as_spherical sim.union_) (not_solved sim state_a state_b) λ j.
     let r = solve_spherical sim.base j context.h context.inv_h state_a state_b use_bias in
     solved (after_solve sim (Spherical r.joint) r.angles) r.velocities r.report

@@ -15,7 +15,7 @@ use solver::make_soft;
 use sqrt::sqrt;
 
 // What a prepare leaves.
-#[derive(Drop)]
+#[derive(Clone, Copy)]
 pub struct SphericalPrepared {
     pub base: JointBase,
     pub joint: SphericalJoint,
@@ -23,7 +23,7 @@ pub struct SphericalPrepared {
 }
 
 // The axis of a limit, and the effective mass about it.
-#[derive(Drop)]
+#[derive(Clone, Copy)]
 struct LimitAxis {
     pub axis: Vec3,
     pub mass: f32,

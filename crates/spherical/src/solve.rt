@@ -21,7 +21,7 @@ use records::joint::{JointBase, LimitAngles, SphericalJoint};
 use solver::Softness;
 
 // What a solve leaves.
-#[derive(Drop)]
+#[derive(Clone, Copy)]
 pub struct SphericalSolved {
     pub joint: SphericalJoint,
     pub angles: LimitAngles,

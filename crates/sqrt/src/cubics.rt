@@ -13,7 +13,7 @@ pub const SQUARE_UNIT: u64 = 1 << 16;
 pub const UNIT: u64 = 1 << 32;
 
 // The coefficients c3, c2, c1 and c0 of `estimate`, where c2 is subtracted.
-#[derive(Drop)]
+#[derive(Clone, Copy)]
 pub struct Cubic(pub u32, pub u32, pub u32, pub u64);
 
 // The polynomial of interval k. It goes through the root at the four zeros of a Chebyshev

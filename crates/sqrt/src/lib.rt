@@ -38,7 +38,7 @@ const ODD_SCALE: u64 = 1 << 24;
 const ROOT_BOUND: u64 = 1 << 24;
 
 // A number as `significand * 2 ^ (exponent - 173)`.
-#[derive(Drop)]
+#[derive(Clone, Copy)]
 struct Unpacked {
     significand: u64,
     exponent: u64,

@@ -7,7 +7,7 @@ ghost use Rattle.stop_code.specs.StopCode as D;
 use constraint::answer::WRONG_KIND;
 use records::joint::{JointSim, JointUnion, LimitAngles, RevoluteJoint, SphericalJoint};
 
-#[derive(Drop)]
+#[derive(Clone, Copy)]
 pub struct StopCode {
     pub number: u32,
     pub place: u32,

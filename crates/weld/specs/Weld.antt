@@ -1,6 +1,6 @@
 -- joint/weld.rs: prepare, warm start and solve of a weld joint. Definitions only. Assumes nothing.
 use Rattle.std.specs.Prelude.{Bool, not, cond, ◌||◌, Float}
-use Rattle.std.proofs.Math.Option.{Option·elim}
+use Rattle.std.proofs.Math.Option.{Option-elim}
 use Rattle.math_functions.specs.declared.types.Vec3.{Vec3}
 use Rattle.math_functions.specs.declared.types.Matrix3.{Matrix3}
 use Rattle.math_functions.specs.declared.mark.Mark.{Mark}
@@ -157,18 +157,18 @@ solve_weld base j state_a state_b use_bias =
 -- of the context h and enable_warm_starting. C-11: 'prepare stores NaN in both'. C-15: the angular mass's mark is passed on
 unfoldable pub prepare_weld_joint : JointSim → StepContext → BodyRecord → BodyRecord → Prepared
 prepare_weld_joint sim context body_a body_b =
-    Option·elim (as_weld sim.union_) (not_prepared sim) λ j.
+    Option-elim (as_weld sim.union_) (not_prepared sim) λ j.
     let delta_center = sub_pos body_b.center body_a.center in
     let r = prepare_weld sim.base j context.h context.enable_warm_starting delta_center body_a body_b in
     prepared (joint_sim r.base (Weld r.joint) no_angles) r.mass_mark
 
 unfoldable pub warm_start_weld_joint : JointSim → BodyState → BodyState → WarmStarted
 warm_start_weld_joint sim state_a state_b =
-    Option·elim (as_weld sim.union_) (not_warm_started sim state_a state_b) λ j. warm_started sim (warm_start_weld sim.base j state_a state_b)
+    Option-elim (as_weld sim.union_) (not_warm_started sim state_a state_b) λ j. warm_started sim (warm_start_weld sim.base j state_a state_b)
 
 -- of the context nothing. C-11: a weld has no limit row, so that its solve stores NaN in both
 unfoldable pub solve_weld_joint : JointSim → StepContext → BodyState → BodyState → Bool → Solved
 solve_weld_joint sim context state_a state_b use_bias =
-    Option·elim (as_weld sim.union_) (not_solved sim state_a state_b) λ j.
+    Option-elim (as_weld sim.union_) (not_solved sim state_a state_b) λ j.
     let r = solve_weld sim.base j state_a state_b use_bias in
     solved (after_solve sim (Weld r.joint) no_angles) r.velocities r.report

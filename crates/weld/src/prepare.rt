@@ -11,7 +11,7 @@ use records::joint::{JointBase, WeldJoint};
 use solver::{Softness, make_soft};
 
 // What prepare leaves.
-#[derive(Drop)]
+#[derive(Clone, Copy)]
 pub struct WeldPrepared {
     pub base: JointBase,
     pub joint: WeldJoint,

@@ -16,7 +16,7 @@ use records::body::BodyState;
 use records::joint::{JointBase, WeldJoint};
 
 // What a solve leaves.
-#[derive(Drop)]
+#[derive(Clone, Copy)]
 pub struct WeldSolved {
     pub joint: WeldJoint,
     pub velocities: Velocities,

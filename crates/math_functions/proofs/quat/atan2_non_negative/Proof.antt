@@ -1,6 +1,6 @@
 -- `quat::atan2_non_negative` equals the definition of `atan2`: neither argument is below zero, so each is its own absolute value, and no sign is turned.
 -- Assumes nothing.
-use Rattle.core.specs.Prelude.{◌≡◌, false, ◌&&◌}
+use Rattle.std.specs.Prelude.{◌≡◌, false, ◌&&◌}
 use mathlib.Core.Logic.{⊎_elim}
 use Rattle.math_functions.specs.Float.{eq, zero}
 use Rattle.math_functions.specs.Scalar.{abs_float, atan2}

@@ -1,6 +1,6 @@
 -- `quat::delta_quat_to_rotation` equals its definition. The branch that corrects the polarity is two equations: s ≡ cond test (negate_quat q) q,
 -- and diff is target - s in either arm. Assumes nothing.
-use Rattle.core.specs.Prelude.{◌≡◌, cond}
+use Rattle.std.specs.Prelude.{◌≡◌, cond}
 use mathlib.Core.Logic.{⊎_elim}
 use Rattle.math_functions.specs.Float.{lt, zero}
 use Rattle.math_functions.specs.Quat.{delta_quat_to_rotation, negate_quat}

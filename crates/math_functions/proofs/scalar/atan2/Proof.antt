@@ -1,6 +1,6 @@
 -- `scalar::atan2` equals its definition. The code changes r in two branches, the first of which goes on; its join is one equation, r ≡ cond test new old.
 -- Assumes nothing.
-use Rattle.core.specs.Prelude.{◌≡◌, false, cond, ◌&&◌}
+use Rattle.std.specs.Prelude.{◌≡◌, false, cond, ◌&&◌}
 use mathlib.Core.Logic.{⊎_elim}
 use lib.Ieee.{Float}
 use Rattle.math_functions.specs.Float.{◌⊖◌, neg, lt, eq, zero}
