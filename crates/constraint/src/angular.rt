@@ -33,6 +33,7 @@ pub struct LimitRows {
 }
 
 // A row with a switch is worked where that is on, unless the rotation is fixed.
+#[tactic(auto, unfolding(crate::specs::Angular::is_worked))]
 pub fn is_worked(enabled: bool, fixed_rotation: bool) -> bool
     ensures { result ≡ D.is_worked enabled fixed_rotation }
 {
@@ -42,6 +43,7 @@ pub fn is_worked(enabled: bool, fixed_rotation: bool) -> bool
 // The angle of a twist limit and of the cone where its rows are worked, and NaN where not: what they are
 // handed, and what a solve stores. It waits for no velocity, so a spherical solve takes the cone's a row
 // ahead.
+#[tactic(auto, unfolding(crate::specs::Angular::twist_angle_if))]
 pub fn twist_angle_if(worked: bool, rel_q: Quat) -> f32
     ensures { result ≡ D.twist_angle_if worked rel_q }
 {
@@ -51,6 +53,7 @@ pub fn twist_angle_if(worked: bool, rel_q: Quat) -> f32
     nan()
 }
 
+#[tactic(auto, unfolding(crate::specs::Angular::swing_angle_if))]
 pub fn swing_angle_if(worked: bool, rel_q: Quat) -> f32
     ensures { result ≡ D.swing_angle_if worked rel_q }
 {
@@ -61,6 +64,7 @@ pub fn swing_angle_if(worked: bool, rel_q: Quat) -> f32
 }
 
 // The sum of a lower limit's row, whose impulse turns B up about the axis.
+#[tactic(auto, unfolding(crate::specs::Steps::lower_limit_sum))]
 pub fn lower_limit_sum(s: SoftBias, mass: f32, axis: Vec3, old_impulse: f32, v: Velocities) -> f32
     ensures { result ≡ Steps.lower_limit_sum s mass axis old_impulse v }
 {
@@ -69,6 +73,7 @@ pub fn lower_limit_sum(s: SoftBias, mass: f32, axis: Vec3, old_impulse: f32, v: 
 }
 
 // The sum of an upper limit's row, or of the cone's: sign flipped on cdot.
+#[tactic(auto, unfolding(crate::specs::Steps::upper_limit_sum))]
 pub fn upper_limit_sum(s: SoftBias, mass: f32, axis: Vec3, old_impulse: f32, v: Velocities) -> f32
     ensures { result ≡ Steps.upper_limit_sum s mass axis old_impulse v }
 {
@@ -77,6 +82,7 @@ pub fn upper_limit_sum(s: SoftBias, mass: f32, axis: Vec3, old_impulse: f32, v: 
 }
 
 // Such a row that brings its impulse to a value: sign flipped on what is applied.
+#[tactic(auto, unfolding(crate::specs::Steps::upper_row_to))]
 pub fn upper_row_to(
     impulse: f32,
     old_impulse: f32,
@@ -94,6 +100,7 @@ pub fn upper_row_to(
 }
 
 // An upper limit or a cone: sign flipped on cdot and on the applied impulse.
+#[tactic(auto, unfolding(crate::specs::Angular::upper_limit_row))]
 pub fn upper_limit_row(
     s: SoftBias,
     mass: f32,
@@ -126,6 +133,7 @@ pub fn limit_rows(lower_impulse: f32, upper: AxialRow) -> LimitRows
 }
 
 // The angular row: weld's, and spherical's spring.
+#[tactic(auto, unfolding(crate::specs::Angular::angular_row))]
 pub fn angular_row(
     s: SoftBias3,
     mass: Matrix3,

@@ -18,6 +18,7 @@ pub struct PointRow {
 }
 
 // The bias of the point row, where r_a and r_b reach from the centres to the anchors.
+#[tactic(auto, unfolding(crate::specs::Point::point_bias))]
 pub fn point_bias(
     is_soft: bool,
     softness: Softness,
@@ -53,6 +54,7 @@ pub fn add_mass(k: Matrix3, mass: f32) -> Matrix3
 }
 
 // The velocity error at the anchors, as revolute and spherical subtract it: v_a, then w_a x r_a.
+#[tactic(auto, unfolding(crate::specs::Point::point_cdot))]
 pub fn point_cdot(r_a: Vec3, r_b: Vec3, v: Velocities) -> Vec3
     ensures { result ≡ D.point_cdot r_a r_b v }
 {
@@ -60,6 +62,7 @@ pub fn point_cdot(r_a: Vec3, r_b: Vec3, v: Velocities) -> Vec3
 }
 
 // The same as weld groups it: (v_b + w_b x r_b) - (v_a + w_a x r_a).
+#[tactic(auto, unfolding(crate::specs::Point::point_cdot_grouped))]
 pub fn point_cdot_grouped(r_a: Vec3, r_b: Vec3, v: Velocities) -> Vec3
     ensures { result ≡ D.point_cdot_grouped r_a r_b v }
 {

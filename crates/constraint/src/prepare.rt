@@ -12,6 +12,7 @@ use records::{AWAKE_SET, NULL_INDEX};
 
 // The base with the masses of the two bodies. Rotation is fixed where the determinant of the summed
 // inverse inertias is below 1000 * 2^-126: so where it is negative, and not where it is a NaN.
+#[tactic(auto, unfolding(crate::specs::Prepare::prepare_base))]
 pub fn prepare_base(base: JointBase, body_a: BodyRecord, body_b: BodyRecord) -> JointBase
     ensures { result ≡ D.prepare_base base body_a body_b }
 {
@@ -28,6 +29,7 @@ pub fn prepare_base(base: JointBase, body_a: BodyRecord, body_b: BodyRecord) -> 
 }
 
 // The index of a body's state: its local index while it is awake.
+#[tactic(auto, unfolding(crate::specs::Prepare::awake_index))]
 pub fn awake_index(body: BodyRecord) -> i32
     ensures { result ≡ D.awake_index body }
 {
@@ -38,6 +40,7 @@ pub fn awake_index(body: BodyRecord) -> i32
 }
 
 // A joint frame with world space rotation, relative to the centre of mass.
+#[tactic(auto, unfolding(crate::specs::Prepare::prepare_frame))]
 pub fn prepare_frame(body: BodyRecord, local_frame: Transform) -> Transform
     ensures { result ≡ D.prepare_frame body local_frame }
 {
@@ -47,6 +50,7 @@ pub fn prepare_frame(body: BodyRecord, local_frame: Transform) -> Transform
 }
 
 // The effective mass about an axis; zero where nothing turns about it.
+#[tactic(auto, unfolding(crate::specs::Prepare::axial_mass))]
 pub fn axial_mass(inv_inertia_sum: Matrix3, axis: Vec3) -> f32
     ensures { result ≡ D.axial_mass inv_inertia_sum axis }
 {

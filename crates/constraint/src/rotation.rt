@@ -13,6 +13,7 @@ pub struct RelativeRotation {
 
 // q, or -q where q lies on the other side from p, as revolute and weld joints take the second
 // quaternion. This keeps the rotation angle in [-pi, pi].
+#[tactic(auto, unfolding(crate::specs::Rotation::same_polarity))]
 pub fn same_polarity(p: Quat, q: Quat) -> Quat
     ensures { result ≡ D.same_polarity p q }
 {
@@ -24,6 +25,7 @@ pub fn same_polarity(p: Quat, q: Quat) -> Quat
 }
 
 // Spherical joints take the second quaternion as it is.
+#[tactic(auto, unfolding(crate::specs::Rotation::relative_rotation))]
 pub fn relative_rotation(
     delta_a: Quat,
     frame_a: Quat,

@@ -50,6 +50,7 @@ pub const RIGID3: SoftBias3 = SoftBias3 {
 };
 
 // The bias of a soft row, where c is the constraint's error.
+#[tactic(auto, unfolding(crate::specs::Soft::soft_bias))]
 pub fn soft_bias(softness: Softness, c: f32) -> SoftBias
     ensures { result ≡ D.soft_bias softness c }
 {
@@ -60,6 +61,7 @@ pub fn soft_bias(softness: Softness, c: f32) -> SoftBias
     }
 }
 
+#[tactic(auto, unfolding(crate::specs::Soft::soft_bias2))]
 pub fn soft_bias2(softness: Softness, c: Vec2) -> SoftBias2
     ensures { result ≡ D.soft_bias2 softness c }
 {
@@ -70,6 +72,7 @@ pub fn soft_bias2(softness: Softness, c: Vec2) -> SoftBias2
     }
 }
 
+#[tactic(auto, unfolding(crate::specs::Soft::soft_bias3))]
 pub fn soft_bias3(softness: Softness, c: Vec3) -> SoftBias3
     ensures { result ≡ D.soft_bias3 softness c }
 {
@@ -81,6 +84,7 @@ pub fn soft_bias3(softness: Softness, c: Vec3) -> SoftBias3
 }
 
 // The bias of a limit row, where c is the gap. Above zero the bodies may close it within the step.
+#[tactic(auto, unfolding(crate::specs::Soft::limit_bias))]
 pub fn limit_bias(c: f32, softness: Softness, inv_h: f32, use_bias: bool) -> SoftBias
     ensures { result ≡ D.limit_bias c softness inv_h use_bias }
 {
@@ -99,6 +103,7 @@ pub fn limit_bias(c: f32, softness: Softness, inv_h: f32, use_bias: bool) -> Sof
 }
 
 // The impulse of a soft row of one dimension, whose effective mass is `mass`.
+#[tactic(auto, unfolding(crate::specs::Soft::soft_impulse))]
 pub fn soft_impulse(s: SoftBias, mass: f32, cdot: f32, old_impulse: f32) -> f32
     ensures { result ≡ D.soft_impulse s mass cdot old_impulse }
 {
@@ -106,6 +111,7 @@ pub fn soft_impulse(s: SoftBias, mass: f32, cdot: f32, old_impulse: f32) -> f32
 }
 
 // The sum of a limit's impulse and what its row adds, before it is kept from falling below zero.
+#[tactic(auto, unfolding(crate::specs::Soft::limit_sum))]
 pub fn limit_sum(s: SoftBias, mass: f32, cdot: f32, old_impulse: f32) -> f32
     ensures { result ≡ D.limit_sum s mass cdot old_impulse }
 {
@@ -114,6 +120,7 @@ pub fn limit_sum(s: SoftBias, mass: f32, cdot: f32, old_impulse: f32) -> f32
 }
 
 // The impulse of a limit after its row: never below zero, and a NaN is dropped.
+#[tactic(auto, unfolding(crate::specs::Soft::limit_impulse))]
 pub fn limit_impulse(s: SoftBias, mass: f32, cdot: f32, old_impulse: f32) -> f32
     ensures { result ≡ D.limit_impulse s mass cdot old_impulse }
 {
@@ -121,6 +128,7 @@ pub fn limit_impulse(s: SoftBias, mass: f32, cdot: f32, old_impulse: f32) -> f32
 }
 
 // The impulse of a soft row of three dimensions, where b is what the row's mass made of the error.
+#[tactic(auto, unfolding(crate::specs::Soft::soft_impulse3))]
 pub fn soft_impulse3(s: SoftBias3, b: Vec3, old_impulse: Vec3) -> Vec3
     ensures { result ≡ D.soft_impulse3 s b old_impulse }
 {
@@ -128,6 +136,7 @@ pub fn soft_impulse3(s: SoftBias3, b: Vec3, old_impulse: Vec3) -> Vec3
 }
 
 // The same impulse as revolute's point row writes it: the second product is taken by itself.
+#[tactic(auto, unfolding(crate::specs::Soft::soft_impulse3_products))]
 pub fn soft_impulse3_products(s: SoftBias3, b: Vec3, old_impulse: Vec3) -> Vec3
     ensures { result ≡ D.soft_impulse3_products s b old_impulse }
 {

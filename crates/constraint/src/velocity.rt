@@ -27,6 +27,7 @@ pub struct InvMasses {
     pub i_b: Matrix3,
 }
 
+#[tactic(auto, unfolding(crate::specs::Velocity::velocities_of))]
 pub fn velocities_of(state_a: BodyState, state_b: BodyState) -> Velocities
     ensures { result ≡ D.velocities_of state_a state_b }
 {
@@ -37,6 +38,7 @@ pub fn velocities_of(state_a: BodyState, state_b: BodyState) -> Velocities
     Velocities { v_a, w_a, v_b, w_b }
 }
 
+#[tactic(auto, unfolding(crate::specs::Velocity::inv_masses_of))]
 pub fn inv_masses_of(base: JointBase) -> InvMasses
     ensures { result ≡ D.inv_masses_of base }
 {
@@ -51,6 +53,7 @@ pub fn inv_masses_of(base: JointBase) -> InvMasses
 }
 
 // An impulse about an axis.
+#[tactic(auto, unfolding(crate::specs::Velocity::apply_axial))]
 pub fn apply_axial(m: InvMasses, impulse: f32, axis: Vec3, v: Velocities) -> Velocities
     ensures { result ≡ D.apply_axial m impulse axis v }
 {
@@ -61,6 +64,7 @@ pub fn apply_axial(m: InvMasses, impulse: f32, axis: Vec3, v: Velocities) -> Vel
 }
 
 // The same with the sign flipped, as the upper limits apply it.
+#[tactic(auto, unfolding(crate::specs::Velocity::apply_axial_flipped))]
 pub fn apply_axial_flipped(m: InvMasses, impulse: f32, axis: Vec3, v: Velocities) -> Velocities
     ensures { result ≡ D.apply_axial_flipped m impulse axis v }
 {
@@ -71,6 +75,7 @@ pub fn apply_axial_flipped(m: InvMasses, impulse: f32, axis: Vec3, v: Velocities
 }
 
 // An angular impulse.
+#[tactic(auto, unfolding(crate::specs::Velocity::apply_angular))]
 pub fn apply_angular(m: InvMasses, impulse: Vec3, v: Velocities) -> Velocities
     ensures { result ≡ D.apply_angular m impulse v }
 {
@@ -81,6 +86,7 @@ pub fn apply_angular(m: InvMasses, impulse: Vec3, v: Velocities) -> Velocities
 }
 
 // A linear impulse at r_a from A's centre and r_b from B's.
+#[tactic(auto, unfolding(crate::specs::Velocity::apply_point))]
 pub fn apply_point(m: InvMasses, r_a: Vec3, r_b: Vec3, impulse: Vec3, v: Velocities) -> Velocities
     ensures { result ≡ D.apply_point m r_a r_b impulse v }
 {
@@ -94,6 +100,7 @@ pub fn apply_point(m: InvMasses, r_a: Vec3, r_b: Vec3, impulse: Vec3, v: Velocit
 
 // A warm start: the linear impulse at r_a and r_b together with the angular impulse. The angular
 // velocities come first: the run's loop then keeps fewer values on the stack (docs/PERFORMANCE.md).
+#[tactic(auto, unfolding(crate::specs::Velocity::apply_warm))]
 pub fn apply_warm(
     m: InvMasses,
     r_a: Vec3,

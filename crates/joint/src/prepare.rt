@@ -12,6 +12,7 @@ use spherical::prepare_spherical_joint;
 use weld::prepare_weld_joint;
 
 // The prepare of the joint's own kind; the empty case is refused.
+#[tactic(auto, unfolding(crate::specs::Prepare::prepare_as))]
 pub fn prepare_joint(
     joint: JointSim,
     context: StepContext,

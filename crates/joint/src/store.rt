@@ -13,6 +13,7 @@ pub struct StatePair {
 
 // Both states were read first. A is stored, then B, each only if it is dynamic; so where both
 // indices name one body, B's velocities remain.
+#[tactic(auto, unfolding(crate::specs::Store::store_pair))]
 pub fn store_pair(
     state_a: BodyState,
     state_b: BodyState,

@@ -6,6 +6,7 @@ use crate::scalar::{max_float, min_float};
 
 // The angle of the point (x, y) in the first quadrant, where neither is below zero and one is above
 // it: an approximate arctangent of y / x.
+#[tactic(auto, unfolding(crate::specs::Steps::first_quadrant_angle, crate::specs::Scalar::atan_unit))]
 pub fn first_quadrant_angle(y: f32, x: f32) -> f32
     ensures { result ≡ Steps.first_quadrant_angle y x }
 {

@@ -5,6 +5,7 @@ ghost use Rattle.math_functions.specs.Internal as D;
 use crate::types::Vec2;
 
 // 2D vector addition.
+#[tactic(auto, unfolding(crate::specs::Internal::add2))]
 pub fn add2(a: Vec2, b: Vec2) -> Vec2
     ensures { result ≡ D.add2 a b }
 {
@@ -15,6 +16,7 @@ pub fn add2(a: Vec2, b: Vec2) -> Vec2
 }
 
 // 2D vector subtraction.
+#[tactic(auto, unfolding(crate::specs::Internal::sub2))]
 pub fn sub2(a: Vec2, b: Vec2) -> Vec2
     ensures { result ≡ D.sub2 a b }
 {
@@ -25,6 +27,7 @@ pub fn sub2(a: Vec2, b: Vec2) -> Vec2
 }
 
 // 2D scalar multiply.
+#[tactic(auto, unfolding(crate::specs::Internal::mul_sv2))]
 pub fn mul_sv2(s: f32, v: Vec2) -> Vec2
     ensures { result ≡ D.mul_sv2 s v }
 {

@@ -34,6 +34,7 @@ pub struct MarkedMatrix3 {
 }
 
 // Compute the determinant of a 3-by-3 matrix.
+#[tactic(auto, unfolding(crate::specs::Matrix::det))]
 pub fn det(m: Matrix3) -> f32
     ensures { result ≡ D.det m }
 {
@@ -41,6 +42,7 @@ pub fn det(m: Matrix3) -> f32
 }
 
 // Multiply a matrix times a column vector.
+#[tactic(auto, unfolding(crate::specs::Matrix::mul_mv))]
 pub fn mul_mv(m: Matrix3, a: Vec3) -> Vec3
     ensures { result ≡ D.mul_mv m a }
 {
@@ -52,6 +54,7 @@ pub fn mul_mv(m: Matrix3, a: Vec3) -> Vec3
 }
 
 // Negate a matrix.
+#[tactic(auto, unfolding(crate::specs::Matrix::negate_mat3, crate::specs::Vector::neg))]
 pub fn negate_mat3(a: Matrix3) -> Matrix3
     ensures { result ≡ D.negate_mat3 a }
 {
@@ -63,6 +66,7 @@ pub fn negate_mat3(a: Matrix3) -> Matrix3
 }
 
 // Matrix addition.
+#[tactic(auto, unfolding(crate::specs::Matrix::add_mm, crate::specs::Vector::add))]
 pub fn add_mm(a: Matrix3, b: Matrix3) -> Matrix3
     ensures { result ≡ D.add_mm a b }
 {
@@ -74,6 +78,7 @@ pub fn add_mm(a: Matrix3, b: Matrix3) -> Matrix3
 }
 
 // Matrix multiplication.
+#[tactic(auto, unfolding(crate::specs::Matrix::mul_mm))]
 pub fn mul_mm(a: Matrix3, b: Matrix3) -> Matrix3
     ensures { result ≡ D.mul_mm a b }
 {
@@ -86,6 +91,7 @@ pub fn mul_mm(a: Matrix3, b: Matrix3) -> Matrix3
 
 // General matrix inverse. Row by row it is the cross products of the columns over the determinant,
 // so each entry is computed at its own place: nothing is turned over afterwards.
+#[tactic(auto, unfolding(crate::specs::Matrix::invert_matrix, crate::specs::Matrix::invert_matrix_mark, crate::specs::Matrix::transpose, crate::specs::Vector::mul_sv, crate::specs::Vector::cross))]
 pub fn invert_matrix(m: Matrix3) -> MarkedMatrix3
     ensures { result ≡ D.marked_matrix3 (D.invert_matrix m) (D.invert_matrix_mark m) }
 {
@@ -121,6 +127,7 @@ pub fn invert_matrix(m: Matrix3) -> MarkedMatrix3
 }
 
 // Solve a matrix equation: inv(m) * a
+#[tactic(auto, unfolding(crate::specs::Matrix::solve3, crate::specs::Matrix::solve3_mark))]
 pub fn solve3(m: Matrix3, a: Vec3) -> MarkedVec3
     ensures { result ≡ D.marked_vec3 (D.solve3 m a) (D.solve3_mark m) }
 {
@@ -150,6 +157,7 @@ pub fn solve3(m: Matrix3, a: Vec3) -> MarkedVec3
 }
 
 // The determinant of a 2-by-2 matrix.
+#[tactic(auto, unfolding(crate::specs::Matrix::det2))]
 pub fn det2(m: Mat2) -> f32
     ensures { result ≡ D.det2 m }
 {
@@ -158,6 +166,7 @@ pub fn det2(m: Mat2) -> f32
 
 // Solve A * x = b for a 2-by-2 matrix. Assumes positive semi-definite: a determinant below zero
 // gives zeros, as one that is too small does.
+#[tactic(auto, unfolding(crate::specs::Matrix::solve2, crate::specs::Matrix::solve2_mark))]
 pub fn solve2(m: Mat2, b: Vec2) -> MarkedVec2
     ensures { result ≡ D.marked_vec2 (D.solve2 m b) (D.solve2_mark m) }
 {
@@ -180,6 +189,7 @@ pub fn solve2(m: Mat2, b: Vec2) -> MarkedVec2
 }
 
 // Skew-symmetric cross-product matrix.
+#[tactic(auto, unfolding(crate::specs::Matrix::skew))]
 pub fn skew(v: Vec3) -> Matrix3
     ensures { result ≡ D.skew v }
 {

@@ -12,6 +12,7 @@ use crate::vector::{cross, dot, mul_add, mul_sub, mul_sv, sub};
 use sqrt::sqrt;
 
 // Rotate a vector.
+#[tactic(auto, unfolding(crate::specs::Quat::rotate_vector))]
 pub fn rotate_vector(q: Quat, v: Vec3) -> Vec3
     ensures { result ≡ D.rotate_vector q v }
 {
@@ -23,6 +24,7 @@ pub fn rotate_vector(q: Quat, v: Vec3) -> Vec3
 }
 
 // Compute dot product of two quaternions. Useful for polarity tests.
+#[tactic(auto, unfolding(crate::specs::Quat::dot_quat))]
 pub fn dot_quat(a: Quat, b: Quat) -> f32
     ensures { result ≡ D.dot_quat a b }
 {
@@ -30,6 +32,7 @@ pub fn dot_quat(a: Quat, b: Quat) -> f32
 }
 
 // Multiply two quaternions.
+#[tactic(auto, unfolding(crate::specs::Quat::mul_quat))]
 pub fn mul_quat(q1: Quat, q2: Quat) -> Quat
     ensures { result ≡ D.mul_quat q1 q2 }
 {
@@ -44,6 +47,7 @@ pub fn mul_quat(q1: Quat, q2: Quat) -> Quat
 
 // Compute a relative quaternion.
 // inv(q1) * q2
+#[tactic(auto, unfolding(crate::specs::Quat::inv_mul_quat))]
 pub fn inv_mul_quat(q1: Quat, q2: Quat) -> Quat
     ensures { result ≡ D.inv_mul_quat q1 q2 }
 {
@@ -57,6 +61,7 @@ pub fn inv_mul_quat(q1: Quat, q2: Quat) -> Quat
 }
 
 // Quaternion conjugate (cheap inverse).
+#[tactic(auto, unfolding(crate::specs::Quat::conjugate))]
 pub fn conjugate(q: Quat) -> Quat
     ensures { result ≡ D.conjugate q }
 {
@@ -71,6 +76,7 @@ pub fn conjugate(q: Quat) -> Quat
 }
 
 // Component-wise quaternion negation.
+#[tactic(auto, unfolding(crate::specs::Quat::negate_quat))]
 pub fn negate_quat(q: Quat) -> Quat
     ensures { result ≡ D.negate_quat q }
 {
@@ -85,6 +91,7 @@ pub fn negate_quat(q: Quat) -> Quat
 }
 
 // Twist angle around the z-axis, used for twist limit and revolute angle limit
+#[tactic(auto, unfolding(crate::specs::Quat::get_twist_angle))]
 pub fn get_twist_angle(q: Quat) -> f32
     ensures { result ≡ D.get_twist_angle q }
 {
@@ -99,6 +106,7 @@ pub fn get_twist_angle(q: Quat) -> f32
 }
 
 // Component-wise quaternion subtraction.
+#[tactic(auto, unfolding(crate::specs::Steps::sub_quat))]
 fn sub_quat(a: Quat, b: Quat) -> Quat
     ensures { result ≡ Steps.sub_quat a b }
 {
@@ -110,6 +118,7 @@ fn sub_quat(a: Quat, b: Quat) -> Quat
 
 // Pseudo angular velocity from a quaternion target.
 // w = 2 * (target - q) * conj(q)
+#[tactic(auto, unfolding(crate::specs::Quat::delta_quat_to_rotation, crate::specs::Steps::sub_quat))]
 pub fn delta_quat_to_rotation(q: Quat, target: Quat) -> Vec3
     ensures { result ≡ D.delta_quat_to_rotation q target }
 {
@@ -128,6 +137,7 @@ pub fn delta_quat_to_rotation(q: Quat, target: Quat) -> Vec3
 
 // atan2 of a y and an x that are not below zero, such as square roots: it saves the time to look at
 // their signs. A NaN and -0.0 are not below zero.
+#[tactic(auto, unfolding(crate::specs::Scalar::atan2, crate::specs::Scalar::abs_float, crate::specs::Steps::first_quadrant_angle))]
 fn atan2_non_negative(y: f32, x: f32) -> f32
     requires { (lt y zero ≡ false) × (lt x zero ≡ false) }
     ensures { result ≡ Scalar.atan2 y x }
@@ -139,6 +149,7 @@ fn atan2_non_negative(y: f32, x: f32) -> f32
 }
 
 // Swing angle used for cone limit
+#[tactic(auto, unfolding(crate::specs::Quat::get_swing_angle))]
 pub fn get_swing_angle(q: Quat) -> f32
     ensures { result ≡ D.get_swing_angle q }
 {

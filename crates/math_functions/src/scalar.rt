@@ -5,6 +5,7 @@ ghost use Rattle.math_functions.specs.Scalar as D;
 use crate::arctangent::first_quadrant_angle;
 
 // The absolute value of a float. -0.0 stays as it is, since it is not below zero.
+#[tactic(auto, unfolding(crate::specs::Scalar::abs_float))]
 pub fn abs_float(a: f32) -> f32
     ensures { result ≡ D.abs_float a }
 {
@@ -12,6 +13,7 @@ pub fn abs_float(a: f32) -> f32
 }
 
 // The minimum of two floats; b where one is a NaN.
+#[tactic(auto, unfolding(crate::specs::Scalar::min_float))]
 pub fn min_float(a: f32, b: f32) -> f32
     ensures { result ≡ D.min_float a b }
 {
@@ -19,6 +21,7 @@ pub fn min_float(a: f32, b: f32) -> f32
 }
 
 // The maximum of two floats; b where one is a NaN.
+#[tactic(auto, unfolding(crate::specs::Scalar::max_float))]
 pub fn max_float(a: f32, b: f32) -> f32
     ensures { result ≡ D.max_float a b }
 {
@@ -26,6 +29,7 @@ pub fn max_float(a: f32, b: f32) -> f32
 }
 
 // A float clamped between a lower and an upper bound. A NaN passes through.
+#[tactic(auto, unfolding(crate::specs::Scalar::clamp_float))]
 pub fn clamp_float(a: f32, lower: f32, upper: f32) -> f32
     ensures { result ≡ D.clamp_float a lower upper }
 {
@@ -39,6 +43,7 @@ pub fn clamp_float(a: f32, lower: f32, upper: f32) -> f32
 }
 
 // An approximate arctangent in the range [-pi, pi], the same on every machine.
+#[tactic(auto, unfolding(crate::specs::Scalar::atan2, crate::specs::Steps::first_quadrant_angle))]
 pub fn atan2(y: f32, x: f32) -> f32
     ensures { result ≡ D.atan2 y x }
 {

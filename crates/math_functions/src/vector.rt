@@ -6,6 +6,7 @@ use crate::types::{MIN_POSITIVE, Vec3};
 use sqrt::sqrt;
 
 // Vector addition.
+#[tactic(auto, unfolding(crate::specs::Vector::add))]
 pub fn add(a: Vec3, b: Vec3) -> Vec3
     ensures { result ≡ D.add a b }
 {
@@ -17,6 +18,7 @@ pub fn add(a: Vec3, b: Vec3) -> Vec3
 }
 
 // Vector subtraction.
+#[tactic(auto, unfolding(crate::specs::Vector::sub))]
 pub fn sub(a: Vec3, b: Vec3) -> Vec3
     ensures { result ≡ D.sub a b }
 {
@@ -28,6 +30,7 @@ pub fn sub(a: Vec3, b: Vec3) -> Vec3
 }
 
 // Vector negation.
+#[tactic(auto, unfolding(crate::specs::Vector::neg))]
 pub fn neg(a: Vec3) -> Vec3
     ensures { result ≡ D.neg a }
 {
@@ -39,6 +42,7 @@ pub fn neg(a: Vec3) -> Vec3
 }
 
 // Vector dot product.
+#[tactic(auto, unfolding(crate::specs::Vector::dot))]
 pub fn dot(a: Vec3, b: Vec3) -> f32
     ensures { result ≡ D.dot a b }
 {
@@ -46,6 +50,7 @@ pub fn dot(a: Vec3, b: Vec3) -> f32
 }
 
 // Vector length.
+#[tactic(auto, unfolding(crate::specs::Vector::length))]
 pub fn length(v: Vec3) -> f32
     ensures { result ≡ D.length v }
 {
@@ -53,6 +58,7 @@ pub fn length(v: Vec3) -> f32
 }
 
 // Normalize a vector. Returns a zero vector if the input vector is very small.
+#[tactic(auto, unfolding(crate::specs::Vector::normalize))]
 pub fn normalize(a: Vec3) -> Vec3
     ensures { result ≡ D.normalize a }
 {
@@ -75,6 +81,7 @@ pub fn normalize(a: Vec3) -> Vec3
 }
 
 // a + s * b
+#[tactic(auto, unfolding(crate::specs::Vector::mul_add))]
 pub fn mul_add(a: Vec3, s: f32, b: Vec3) -> Vec3
     ensures { result ≡ D.mul_add a s b }
 {
@@ -86,6 +93,7 @@ pub fn mul_add(a: Vec3, s: f32, b: Vec3) -> Vec3
 }
 
 // a - s * b
+#[tactic(auto, unfolding(crate::specs::Vector::mul_sub))]
 pub fn mul_sub(a: Vec3, s: f32, b: Vec3) -> Vec3
     ensures { result ≡ D.mul_sub a s b }
 {
@@ -97,6 +105,7 @@ pub fn mul_sub(a: Vec3, s: f32, b: Vec3) -> Vec3
 }
 
 // s * a
+#[tactic(auto, unfolding(crate::specs::Vector::mul_sv))]
 pub fn mul_sv(s: f32, a: Vec3) -> Vec3
     ensures { result ≡ D.mul_sv s a }
 {
@@ -108,6 +117,7 @@ pub fn mul_sv(s: f32, a: Vec3) -> Vec3
 }
 
 // Vector cross product.
+#[tactic(auto, unfolding(crate::specs::Vector::cross))]
 pub fn cross(a: Vec3, b: Vec3) -> Vec3
     ensures { result ≡ D.cross a b }
 {

@@ -26,6 +26,7 @@ const SLAB: Matrix3 = Matrix3 {
 };
 
 // What stands fast: it is in the set of the static bodies, and has no state.
+#[tactic(auto, unfolding(crate::specs::Body::fixed_body))]
 pub fn fixed_body() -> BodyRecord
     ensures { result ≡ D.fixed_body }
 {
@@ -41,6 +42,7 @@ pub fn fixed_body() -> BodyRecord
 }
 
 // A slab at an index of the awake set, with its centre at x.
+#[tactic(auto, unfolding(crate::specs::Body::slab))]
 pub fn slab(index: u8, x: f32) -> BodyRecord
     ensures { result ≡ D.slab index x }
 {
@@ -56,6 +58,7 @@ pub fn slab(index: u8, x: f32) -> BodyRecord
 }
 
 // A dynamic body that moves and turns, the faster the larger `speed`.
+#[tactic(auto, unfolding(crate::specs::Body::moving))]
 pub fn moving(speed: f32) -> BodyState
     ensures { result ≡ D.moving speed }
 {

@@ -11,6 +11,7 @@ use records::joint::{
 };
 
 // The hinge, with impulses that a step before has left.
+#[tactic(auto, unfolding(crate::specs::Door::hinge))]
 fn hinge() -> RevoluteJoint
     ensures { result ≡ D.hinge }
 {
@@ -36,6 +37,7 @@ fn hinge() -> RevoluteJoint
     hinge
 }
 
+#[tactic(auto, unfolding(crate::specs::Door::hinge_joint))]
 fn hinge_joint(leaf: u8) -> JointSim
     ensures { result ≡ D.hinge_joint leaf }
 {
@@ -44,6 +46,7 @@ fn hinge_joint(leaf: u8) -> JointSim
 }
 
 // The post stands fast, and the leaf is at an index of the awake set.
+#[tactic(auto, unfolding(crate::specs::Door::door))]
 pub fn door(leaf: u8) -> Model
     ensures { result ≡ D.door leaf }
 {

@@ -33,6 +33,7 @@ const TARGET_ROTATION: Quat = Quat {
 };
 
 // The socket, with impulses that a step before has left.
+#[tactic(auto, unfolding(crate::specs::Hip::socket))]
 fn socket() -> SphericalJoint
     ensures { result ≡ D.socket }
 {
@@ -63,6 +64,7 @@ fn socket() -> SphericalJoint
     socket
 }
 
+#[tactic(auto, unfolding(crate::specs::Hip::socket_joint))]
 fn socket_joint(pelvis: u8, thigh: u8) -> JointSim
     ensures { result ≡ D.socket_joint pelvis thigh }
 {
@@ -71,6 +73,7 @@ fn socket_joint(pelvis: u8, thigh: u8) -> JointSim
 }
 
 // The pelvis and the thigh are at indices of the awake set.
+#[tactic(auto, unfolding(crate::specs::Hip::hip))]
 pub fn hip(pelvis: u8, thigh: u8) -> Model
     ensures { result ≡ D.hip pelvis thigh }
 {

@@ -10,6 +10,7 @@ use records::joint::{
 };
 
 // The weld, with impulses that a step before has left.
+#[tactic(auto, unfolding(crate::specs::Strut::weld_record))]
 fn weld_record() -> WeldJoint
     ensures { result ≡ D.weld_record }
 {
@@ -25,6 +26,7 @@ fn weld_record() -> WeldJoint
     weld
 }
 
+#[tactic(auto, unfolding(crate::specs::Strut::weld_joint))]
 fn weld_joint(strut: u8) -> JointSim
     ensures { result ≡ D.weld_joint strut }
 {
@@ -33,6 +35,7 @@ fn weld_joint(strut: u8) -> JointSim
 }
 
 // The pier stands fast, and the strut is at an index of the awake set.
+#[tactic(auto, unfolding(crate::specs::Strut::strut))]
 pub fn strut(strut: u8) -> Model
     ensures { result ≡ D.strut strut }
 {

@@ -46,6 +46,7 @@ pub struct BodyRecord {
 }
 
 // Is the body one that the solver writes to?
+#[tactic(auto, unfolding(crate::specs::Body::is_dynamic))]
 fn is_dynamic(state: BodyState) -> bool
     ensures { result ≡ D.is_dynamic state }
 {
@@ -53,6 +54,7 @@ fn is_dynamic(state: BodyState) -> bool
 }
 
 // The state as it is stored back: with new velocities if it is dynamic, else as it was.
+#[tactic(auto, unfolding(crate::specs::Body::store_velocities))]
 pub fn store_velocities(state: BodyState, v: Vec3, w: Vec3) -> BodyState
     ensures { result ≡ D.store_velocities state v w }
 {

@@ -21,6 +21,7 @@ pub struct RevolutePrepared {
 }
 
 // One of the two axes that stay collinear, in the world, where q is the rotation of frame A.
+#[tactic(auto, unfolding(crate::specs::Revolute::perp_axis))]
 pub fn perp_axis(q: Quat, rel_q: Quat, axis: Vec3) -> Vec3
     ensures { result ≡ D.perp_axis q rel_q axis }
 {
@@ -29,6 +30,7 @@ pub fn perp_axis(q: Quat, rel_q: Quat, axis: Vec3) -> Vec3
 }
 
 // The impulses stay only for a warm start.
+#[tactic(auto, unfolding(crate::specs::Revolute::keep_impulses))]
 fn keep_impulses(mut joint: RevoluteJoint, enable_warm_starting: bool) -> RevoluteJoint
     ensures { result ≡ D.keep_impulses joint enable_warm_starting }
 {
@@ -47,6 +49,7 @@ fn keep_impulses(mut joint: RevoluteJoint, enable_warm_starting: bool) -> Revolu
 }
 
 // The masses, the frames, the rotation axis and the perpendicular axes at the start of a step.
+#[tactic(auto, unfolding(crate::specs::Revolute::prepare_revolute))]
 pub fn prepare_revolute(
     mut base: JointBase,
     mut joint: RevoluteJoint,

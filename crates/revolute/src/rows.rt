@@ -33,6 +33,7 @@ pub struct PerpRow {
 }
 
 // The spring pulls the twist angle to the target angle.
+#[tactic(auto, unfolding(crate::specs::Revolute::spring_row))]
 pub fn spring_row(
     worked: bool,
     rel_q: Quat,
@@ -65,6 +66,7 @@ pub fn spring_row(
 }
 
 // The motor's impulse before it is clamped.
+#[tactic(auto, unfolding(crate::specs::Revolute::motor_sum))]
 fn motor_sum(motor_speed: f32, mass: f32, axis: Vec3, old_impulse: f32, v: Velocities) -> f32
     ensures { result ≡ D.motor_sum motor_speed mass axis old_impulse v }
 {
@@ -74,6 +76,7 @@ fn motor_sum(motor_speed: f32, mass: f32, axis: Vec3, old_impulse: f32, v: Veloc
 }
 
 // The motor drives the bodies to the motor speed, with no more than its torque in each direction.
+#[tactic(auto, unfolding(crate::specs::Revolute::motor_row))]
 pub fn motor_row(
     worked: bool,
     motor_speed: f32,
@@ -104,6 +107,7 @@ pub fn motor_row(
 }
 
 // The bias of the perpendicular row.
+#[tactic(auto, unfolding(crate::specs::Revolute::perp_bias))]
 fn perp_bias(use_bias: bool, softness: Softness, rel_q: Quat) -> SoftBias2
     ensures { result ≡ D.perp_bias use_bias softness rel_q }
 {
@@ -119,6 +123,7 @@ fn perp_bias(use_bias: bool, softness: Softness, rel_q: Quat) -> SoftBias2
 }
 
 // Collinearity constraint as 2-by-2
+#[tactic(auto, unfolding(crate::specs::Revolute::perp_mass))]
 fn perp_mass(inv_inertia_sum: Matrix3, axis_x: Vec3, axis_y: Vec3) -> Mat2
     ensures { result ≡ D.perp_mass inv_inertia_sum axis_x axis_y }
 {
@@ -133,6 +138,7 @@ fn perp_mass(inv_inertia_sum: Matrix3, axis_x: Vec3, axis_y: Vec3) -> Mat2
 }
 
 // The impulse of a soft row of two dimensions, where b is what the row's mass made of the error.
+#[tactic(auto, unfolding(crate::specs::Revolute::soft_impulse2_products))]
 fn soft_impulse2_products(s: SoftBias2, b: Vec2, old_impulse: Vec2) -> Vec2
     ensures { result ≡ D.soft_impulse2_products s b old_impulse }
 {
@@ -143,6 +149,7 @@ fn soft_impulse2_products(s: SoftBias2, b: Vec2, old_impulse: Vec2) -> Vec2
 }
 
 // Collinearity constraint, once its two axes are known.
+#[tactic(auto, unfolding(crate::specs::Revolute::collinear_row))]
 fn collinear_row(
     s: SoftBias2,
     axis_x: Vec3,
@@ -175,6 +182,7 @@ fn collinear_row(
 }
 
 // Collinearity constraint. A row that is not worked leaves the two axes as they were.
+#[tactic(auto, unfolding(crate::specs::Revolute::perp_row))]
 pub fn perp_row(
     worked: bool,
     rotation: RelativeRotation,
@@ -204,6 +212,7 @@ pub fn perp_row(
 }
 
 // The point row, where r_a and r_b reach from the centres to the anchors.
+#[tactic(auto, unfolding(crate::specs::Revolute::point_row, constraint::specs::Point::point_mass))]
 pub fn point_row(
     use_bias: bool,
     softness: Softness,

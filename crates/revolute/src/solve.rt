@@ -27,6 +27,7 @@ pub struct RevoluteSolved {
 }
 
 // Where frame B stands relative to frame A.
+#[tactic(auto, unfolding(crate::specs::Revolute::joint_rotation, constraint::specs::Rotation::flipped_relative_rotation))]
 fn joint_rotation(joint: RevoluteJoint, state_a: BodyState, state_b: BodyState) -> RelativeRotation
     ensures { result ≡ D.joint_rotation joint state_a state_b }
 {
@@ -37,6 +38,7 @@ fn joint_rotation(joint: RevoluteJoint, state_a: BodyState, state_b: BodyState) 
 }
 
 // The spring row at the fields of the joint.
+#[tactic(auto, unfolding(crate::specs::Revolute::solve_spring))]
 fn solve_spring(
     fixed_rotation: bool,
     joint: RevoluteJoint,
@@ -60,6 +62,7 @@ fn solve_spring(
 }
 
 // The motor row at the fields of the joint.
+#[tactic(auto, unfolding(crate::specs::Revolute::solve_motor))]
 fn solve_motor(
     fixed_rotation: bool,
     joint: RevoluteJoint,
@@ -83,6 +86,7 @@ fn solve_motor(
 }
 
 // The two limit rows at the fields of the joint.
+#[tactic(auto, unfolding(crate::specs::Revolute::solve_limits, constraint::specs::Angular::twist_limit_rows, constraint::specs::Angular::lower_limit_row, constraint::specs::Steps::lower_limit_sum, constraint::specs::Soft::limit_impulse, math_functions::specs::Scalar::max_float))]
 fn solve_limits(
     fixed_rotation: bool,
     softness: Softness,
@@ -122,6 +126,7 @@ fn solve_limits(
 }
 
 // The perpendicular row at the fields of the joint. It has no switch.
+#[tactic(auto, unfolding(crate::specs::Revolute::solve_perp))]
 fn solve_perp(
     fixed_rotation: bool,
     softness: Softness,
@@ -147,6 +152,7 @@ fn solve_perp(
 }
 
 // The point row at the fields of the joint and the states.
+#[tactic(auto, unfolding(crate::specs::Revolute::solve_point))]
 fn solve_point(
     softness: Softness,
     joint: RevoluteJoint,
@@ -201,6 +207,7 @@ fn with_impulses(
 }
 
 // The rows in order, each on the velocities that the row before it left.
+#[tactic(auto, unfolding(crate::specs::Revolute::solve_revolute))]
 pub fn solve_revolute(
     base: JointBase,
     mut joint: RevoluteJoint,

@@ -10,6 +10,7 @@ use records::body::BodyState;
 use records::joint::{JointBase, RevoluteJoint};
 
 // The angular impulse of an impulse about the two perpendicular axes.
+#[tactic(auto, unfolding(crate::specs::Revolute::perp_angular_impulse))]
 pub fn perp_angular_impulse(impulse: Vec2, axis_x: Vec3, axis_y: Vec3) -> Vec3
     ensures { result ≡ D.perp_angular_impulse impulse axis_x axis_y }
 {
@@ -17,6 +18,7 @@ pub fn perp_angular_impulse(impulse: Vec2, axis_x: Vec3, axis_y: Vec3) -> Vec3
 }
 
 // The angular impulse of all rows but the point row.
+#[tactic(auto, unfolding(crate::specs::Revolute::warm_angular_impulse))]
 fn warm_angular_impulse(joint: RevoluteJoint) -> Vec3
     ensures { result ≡ D.warm_angular_impulse joint }
 {
@@ -31,6 +33,7 @@ fn warm_angular_impulse(joint: RevoluteJoint) -> Vec3
 }
 
 // The velocities after the impulses that the joint has kept.
+#[tactic(auto, unfolding(crate::specs::Revolute::warm_start_revolute))]
 pub fn warm_start_revolute(
     base: JointBase,
     joint: RevoluteJoint,

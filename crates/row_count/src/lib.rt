@@ -12,6 +12,7 @@ pub mod spherical;
 pub mod weld;
 
 // By the joint's case; the empty one is refused, and has none.
+#[tactic(auto, unfolding(crate::specs::RowCount::rows_of_case))]
 fn rows_of_case(fixed_rotation: bool, union_: JointUnion) -> u32
     ensures { result ≡ D.rows_of_case fixed_rotation union_ }
 {

@@ -6,6 +6,7 @@ use crate::rows::sum_rows;
 use constraint::angular::is_worked;
 use records::joint::RevoluteJoint;
 
+#[tactic(auto, unfolding(crate::specs::Revolute::count_rows))]
 pub fn count_rows(fixed_rotation: bool, joint: RevoluteJoint) -> u32
     ensures { result ≡ D.count_rows fixed_rotation joint }
 {

@@ -3,6 +3,7 @@ ghost use Rattle.std.specs.Prelude.{◌≡◌};
 ghost use Rattle.row_count.specs.Rows as D;
 
 // `n` where they are worked, else 0.
+#[tactic(auto, unfolding(crate::specs::Rows::rows_if))]
 pub fn rows_if(worked: bool, n: u32) -> u32
     ensures { result ≡ D.rows_if worked n }
 {
@@ -10,6 +11,7 @@ pub fn rows_if(worked: bool, n: u32) -> u32
 }
 
 // Spring, motor, the limit's two, one more (revolute's perpendicular axes, spherical's cone), point.
+#[tactic(auto, unfolding(crate::specs::Rows::sum_rows))]
 pub fn sum_rows(spring: bool, motor: bool, limits: bool, perp_or_cone: bool) -> u32
     ensures { result ≡ D.sum_rows spring motor limits perp_or_cone }
 {

@@ -6,6 +6,7 @@ use crate::rows::sum_rows;
 use constraint::angular::is_worked;
 use records::joint::SphericalJoint;
 
+#[tactic(auto, unfolding(crate::specs::Spherical::count_rows))]
 pub fn count_rows(fixed_rotation: bool, joint: SphericalJoint) -> u32
     ensures { result ≡ D.count_rows fixed_rotation joint }
 {

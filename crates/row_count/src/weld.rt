@@ -4,6 +4,7 @@ ghost use Rattle.row_count.specs.Weld as D;
 
 use crate::rows::rows_if;
 
+#[tactic(auto, unfolding(crate::specs::Weld::count_rows))]
 pub fn count_rows(fixed_rotation: bool) -> u32
     ensures { result ≡ D.count_rows fixed_rotation }
 {

@@ -20,6 +20,7 @@ pub const NO_SOFTNESS: Softness = Softness {
     impulse_scale: 0.0,
 };
 
+#[tactic(auto, unfolding(crate::specs::Solver::make_soft))]
 pub fn make_soft(hertz: f32, zeta: f32, h: f32) -> Softness
     ensures { result ≡ D.make_soft hertz zeta h }
 {

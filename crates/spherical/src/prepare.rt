@@ -30,6 +30,7 @@ struct LimitAxis {
 }
 
 // The cone's axis. Where the cone is off the older one stays.
+#[tactic(auto, unfolding(crate::specs::Spherical::prepare_swing))]
 fn prepare_swing(
     joint: SphericalJoint,
     inv_inertia_sum: Matrix3,
@@ -51,6 +52,7 @@ fn prepare_swing(
     LimitAxis { axis, mass }
 }
 
+#[tactic(auto, unfolding(crate::specs::Spherical::twist_jacobian))]
 fn twist_jacobian(quat_a: Quat, quat_b: Quat, cone_axis: Vec3, twist_axis: Vec3) -> Vec3
     ensures { result ≡ D.twist_jacobian quat_a quat_b cone_axis twist_axis }
 {
@@ -65,6 +67,7 @@ fn twist_jacobian(quat_a: Quat, quat_b: Quat, cone_axis: Vec3, twist_axis: Vec3)
 }
 
 // The twist limit's axis. Where the limit is off the older one stays.
+#[tactic(auto, unfolding(crate::specs::Spherical::prepare_twist))]
 fn prepare_twist(
     joint: SphericalJoint,
     inv_inertia_sum: Matrix3,
@@ -88,6 +91,7 @@ fn prepare_twist(
 }
 
 // The rotation mass and its mark: it is not inverted where rotation is fixed.
+#[tactic(auto, unfolding(crate::specs::Spherical::prepare_rotation_mass, crate::specs::Spherical::rotation_mass_mark))]
 fn prepare_rotation_mass(fixed_rotation: bool, inv_inertia_sum: Matrix3) -> MarkedMatrix3
     ensures { result ≡ marked_matrix3 (D.prepare_rotation_mass fixed_rotation inv_inertia_sum)
         (D.rotation_mass_mark fixed_rotation inv_inertia_sum) }
@@ -103,6 +107,7 @@ fn prepare_rotation_mass(fixed_rotation: bool, inv_inertia_sum: Matrix3) -> Mark
 }
 
 // The joint with its impulses, which are cleared if warm starting is off.
+#[tactic(auto, unfolding(crate::specs::Spherical::keep_impulses))]
 fn keep_impulses(mut joint: SphericalJoint, enable_warm_starting: bool) -> SphericalJoint
     ensures { result ≡ D.keep_impulses joint enable_warm_starting }
 {
@@ -119,6 +124,7 @@ fn keep_impulses(mut joint: SphericalJoint, enable_warm_starting: bool) -> Spher
     joint
 }
 
+#[tactic(auto, unfolding(crate::specs::Spherical::prepare_spherical))]
 pub fn prepare_spherical(
     mut base: JointBase,
     mut joint: SphericalJoint,

@@ -16,6 +16,7 @@ use math_functions::vector::{add, length, mul_sv, neg, sub};
 use solver::Softness;
 
 // The spring pulls the rotation of frame B relative to frame A to the target.
+#[tactic(auto, unfolding(crate::specs::Spherical::spring_row))]
 pub fn spring_row(
     worked: bool,
     rotation: RelativeRotation,
@@ -41,6 +42,7 @@ pub fn spring_row(
 }
 
 // The motor's impulse before it is scaled.
+#[tactic(auto, unfolding(crate::specs::Spherical::motor_sum))]
 fn motor_sum(motor_velocity: Vec3, mass: Matrix3, old_impulse: Vec3, v: Velocities) -> Vec3
     ensures { result ≡ D.motor_sum motor_velocity mass old_impulse v }
 {
@@ -50,6 +52,7 @@ fn motor_sum(motor_velocity: Vec3, mass: Matrix3, old_impulse: Vec3, v: Velociti
 }
 
 // What scales an impulse of the length len to max_impulse where it is longer, and else to itself.
+#[tactic(auto, unfolding(crate::specs::Steps::limit_scale))]
 fn limit_scale(len: f32, max_impulse: f32) -> f32
     ensures { result ≡ Steps.limit_scale len max_impulse }
 {
@@ -62,6 +65,7 @@ fn limit_scale(len: f32, max_impulse: f32) -> f32
 
 // The impulse, scaled where it is longer than max_impulse. The choice is of the scale, one number,
 // where the Rust's is of the vector: one times a number is that number.
+#[tactic(auto, unfolding(crate::specs::Steps::limit_scale, crate::specs::Spherical::limit_length, math_functions::specs::Vector::mul_sv))]
 fn limit_length(impulse: Vec3, max_impulse: f32) -> Vec3
     ensures { result ≡ D.limit_length impulse max_impulse }
 {
@@ -69,6 +73,7 @@ fn limit_length(impulse: Vec3, max_impulse: f32) -> Vec3
 }
 
 // The motor drives the relative angular velocity to the motor's.
+#[tactic(auto, unfolding(crate::specs::Spherical::motor_row))]
 pub fn motor_row(
     worked: bool,
     motor_velocity: Vec3,
@@ -97,6 +102,7 @@ pub fn motor_row(
 }
 
 // The cone: an upper limit of the swing angle.
+#[tactic(auto, unfolding(crate::specs::Spherical::cone_row))]
 pub fn cone_row(
     worked: bool,
     swing_angle: f32,
@@ -129,6 +135,7 @@ pub fn cone_row(
 }
 
 // The point row, with its bias s, holds the two anchors together.
+#[tactic(auto, unfolding(crate::specs::Spherical::point_row, constraint::specs::Point::point_mass))]
 pub fn point_row(
     s: SoftBias3,
     r_a: Vec3,

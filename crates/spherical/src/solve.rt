@@ -30,6 +30,7 @@ pub struct SphericalSolved {
 }
 
 // Where frame B stands relative to frame A.
+#[tactic(auto, unfolding(crate::specs::Spherical::joint_rotation))]
 fn joint_rotation(joint: SphericalJoint, state_a: BodyState, state_b: BodyState) -> RelativeRotation
     ensures { result ≡ D.joint_rotation joint state_a state_b }
 {
@@ -42,6 +43,7 @@ fn joint_rotation(joint: SphericalJoint, state_a: BodyState, state_b: BodyState)
 }
 
 // The spring row at the fields of the joint.
+#[tactic(auto, unfolding(crate::specs::Spherical::solve_spring))]
 fn solve_spring(
     fixed_rotation: bool,
     joint: SphericalJoint,
@@ -64,6 +66,7 @@ fn solve_spring(
 }
 
 // The motor row at the fields of the joint.
+#[tactic(auto, unfolding(crate::specs::Spherical::solve_motor))]
 fn solve_motor(
     fixed_rotation: bool,
     joint: SphericalJoint,
@@ -87,6 +90,7 @@ fn solve_motor(
 
 // The twist limit's rows, where they are worked. A limit that does not push is passed by a branch,
 // which the processor predicts, so that what follows need not wait for the sum.
+#[tactic(auto, unfolding(crate::specs::Steps::limit_rows_at, constraint::specs::Angular::twist_limit_rows, constraint::specs::Angular::lower_limit_row, constraint::specs::Steps::lower_limit_sum, constraint::specs::Soft::limit_impulse, math_functions::specs::Scalar::max_float))]
 fn limit_rows_at(
     softness: Softness,
     joint: SphericalJoint,
@@ -123,6 +127,7 @@ fn limit_rows_at(
 }
 
 // The two limit rows at the fields of the joint.
+#[tactic(auto, unfolding(crate::specs::Spherical::solve_limits, constraint::specs::Angular::twist_limit_rows, crate::specs::Steps::limit_rows_at))]
 fn solve_limits(
     fixed_rotation: bool,
     softness: Softness,
@@ -146,6 +151,7 @@ fn solve_limits(
 }
 
 // The cone's row at the fields of the joint.
+#[tactic(auto, unfolding(crate::specs::Spherical::solve_cone))]
 fn solve_cone(
     fixed_rotation: bool,
     softness: Softness,
@@ -174,6 +180,7 @@ fn solve_cone(
 }
 
 // The bias of the point row at the fields of the joint and the states.
+#[tactic(auto, unfolding(crate::specs::Spherical::solve_bias))]
 fn solve_bias(
     softness: Softness,
     joint: SphericalJoint,
@@ -198,6 +205,7 @@ fn solve_bias(
 
 // What waits for no velocity (the cone's angle, the anchors and the point row's bias) is computed a
 // row before the row that needs it, so that the processor has it to do while rows wait for each other.
+#[tactic(auto, unfolding(crate::specs::Spherical::solve_spherical, crate::specs::Spherical::solve_point))]
 pub fn solve_spherical(
     base: JointBase,
     mut joint: SphericalJoint,

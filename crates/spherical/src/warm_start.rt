@@ -8,6 +8,7 @@ use math_functions::vector::{add, mul_add, mul_sub};
 use records::body::BodyState;
 use records::joint::{JointBase, SphericalJoint};
 
+#[tactic(auto, unfolding(crate::specs::Spherical::warm_start_spherical))]
 pub fn warm_start_spherical(
     base: JointBase,
     joint: SphericalJoint,

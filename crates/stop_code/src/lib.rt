@@ -15,6 +15,7 @@ pub struct StopCode {
 }
 
 // Whether a limit that is on pushes.
+#[tactic(auto, unfolding(crate::specs::StopCode::is_pushing))]
 fn is_pushing(enabled: bool, impulse: f32) -> bool
     ensures { result ≡ D.is_pushing enabled impulse }
 {
@@ -23,6 +24,7 @@ fn is_pushing(enabled: bool, impulse: f32) -> bool
 
 // Whether a limit pushes at its lower stop, and the part has arrived there. Neither `>=` nor `<=` holds
 // with a NaN, so that where no angle is stored nothing has arrived.
+#[tactic(auto, unfolding(crate::specs::StopCode::is_at_lower))]
 fn is_at_lower(enabled: bool, impulse: f32, lower_angle: f32, angle: f32) -> bool
     ensures { result ≡ D.is_at_lower enabled impulse lower_angle angle }
 {
@@ -30,6 +32,7 @@ fn is_at_lower(enabled: bool, impulse: f32, lower_angle: f32, angle: f32) -> boo
 }
 
 // The same of its upper stop, and of a cone.
+#[tactic(auto, unfolding(crate::specs::StopCode::is_at_upper))]
 fn is_at_upper(enabled: bool, impulse: f32, upper_angle: f32, angle: f32) -> bool
     ensures { result ≡ D.is_at_upper enabled impulse upper_angle angle }
 {
@@ -37,6 +40,7 @@ fn is_at_upper(enabled: bool, impulse: f32, upper_angle: f32, angle: f32) -> boo
 }
 
 // 1 for the lower stop, plus 2 for the upper, plus 4 for the cone.
+#[tactic(auto, unfolding(crate::specs::StopCode::sum_stops))]
 fn sum_stops(lower: bool, upper: bool, cone: bool) -> u32
     ensures { result ≡ D.sum_stops lower upper cone }
 {
@@ -46,6 +50,7 @@ fn sum_stops(lower: bool, upper: bool, cone: bool) -> u32
     at_lower + at_upper + at_cone
 }
 
+#[tactic(auto, unfolding(crate::specs::StopCode::revolute_stops))]
 fn revolute_stops(j: RevoluteJoint, angles: LimitAngles) -> u32
     ensures { result ≡ D.revolute_stops j angles }
 {
@@ -55,6 +60,7 @@ fn revolute_stops(j: RevoluteJoint, angles: LimitAngles) -> u32
     sum_stops(lower, upper, false)
 }
 
+#[tactic(auto, unfolding(crate::specs::StopCode::spherical_stops))]
 fn spherical_stops(j: SphericalJoint, angles: LimitAngles) -> u32
     ensures { result ≡ D.spherical_stops j angles }
 {
@@ -81,6 +87,7 @@ fn found(code: u32) -> StopCode
 }
 
 // The code of a joint's case; the empty case is refused.
+#[tactic(auto, unfolding(crate::specs::StopCode::stops_of))]
 fn stops_of(union_: JointUnion, fixed_rotation: bool, angles: LimitAngles) -> StopCode
     ensures { result ≡ D.stops_of union_ fixed_rotation angles }
 {
@@ -106,6 +113,7 @@ fn stops_of(union_: JointUnion, fixed_rotation: bool, angles: LimitAngles) -> St
     }
 }
 
+#[tactic(auto, unfolding(crate::specs::StopCode::stop_code))]
 pub fn stop_code(joint: JointSim) -> StopCode
     ensures { result ≡ D.stop_code joint }
 {

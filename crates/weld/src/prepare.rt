@@ -19,6 +19,7 @@ pub struct WeldPrepared {
 }
 
 // The softness of a row: the joint's own where the row's hertz is zero.
+#[tactic(auto, unfolding(crate::specs::Weld::row_spring))]
 fn row_spring(hertz: f32, damping_ratio: f32, h: f32, constraint_softness: Softness) -> Softness
     ensures { result ≡ D.row_spring hertz damping_ratio h constraint_softness }
 {
@@ -30,6 +31,7 @@ fn row_spring(hertz: f32, damping_ratio: f32, h: f32, constraint_softness: Softn
 }
 
 // The impulses stay only for a warm start.
+#[tactic(auto, unfolding(crate::specs::Weld::keep_impulses))]
 fn keep_impulses(mut joint: WeldJoint, enable_warm_starting: bool) -> WeldJoint
     ensures { result ≡ D.keep_impulses joint enable_warm_starting }
 {
@@ -43,6 +45,7 @@ fn keep_impulses(mut joint: WeldJoint, enable_warm_starting: bool) -> WeldJoint
 }
 
 // The masses, the frames and the softness of the two rows at the start of a step.
+#[tactic(auto, unfolding(crate::specs::Weld::prepare_weld))]
 pub fn prepare_weld(
     mut base: JointBase,
     mut joint: WeldJoint,

@@ -14,6 +14,7 @@ use math_functions::vector::{add, neg};
 use solver::Softness;
 
 // A row whose hertz is above zero is soft also where the call has no bias.
+#[tactic(auto, unfolding(crate::specs::Weld::is_soft))]
 pub fn is_soft(use_bias: bool, hertz: f32) -> bool
     ensures { result ≡ D.is_soft use_bias hertz }
 {
@@ -21,6 +22,7 @@ pub fn is_soft(use_bias: bool, hertz: f32) -> bool
 }
 
 // The bias of the angular row.
+#[tactic(auto, unfolding(crate::specs::Weld::angular_bias))]
 fn angular_bias(soft: bool, softness: Softness, rotation: RelativeRotation) -> SoftBias3
     ensures { result ≡ D.angular_bias soft softness rotation }
 {
@@ -35,6 +37,7 @@ fn angular_bias(soft: bool, softness: Softness, rotation: RelativeRotation) -> S
 }
 
 // The angular constraint.
+#[tactic(auto, unfolding(crate::specs::Weld::weld_angular_row))]
 pub fn weld_angular_row(
     worked: bool,
     rotation: RelativeRotation,
@@ -59,6 +62,7 @@ pub fn weld_angular_row(
 }
 
 // The linear constraint with its bias s, where r_a and r_b reach from the centres to the anchors.
+#[tactic(auto, unfolding(crate::specs::Weld::point_row, constraint::specs::Point::point_mass))]
 pub fn point_row(
     s: SoftBias3,
     r_a: Vec3,

@@ -24,6 +24,7 @@ pub struct WeldSolved {
 }
 
 // Where frame B stands relative to frame A.
+#[tactic(auto, unfolding(crate::specs::Weld::joint_rotation, constraint::specs::Rotation::flipped_relative_rotation))]
 fn joint_rotation(joint: WeldJoint, state_a: BodyState, state_b: BodyState) -> RelativeRotation
     ensures { result ≡ D.joint_rotation joint state_a state_b }
 {
@@ -34,6 +35,7 @@ fn joint_rotation(joint: WeldJoint, state_a: BodyState, state_b: BodyState) -> R
 }
 
 // The angular row at the fields of the joint.
+#[tactic(auto, unfolding(crate::specs::Weld::solve_angular))]
 fn solve_angular(
     fixed_rotation: bool,
     joint: WeldJoint,
@@ -58,6 +60,7 @@ fn solve_angular(
 }
 
 // The bias of the point row at the fields of the joint and the states.
+#[tactic(auto, unfolding(crate::specs::Weld::solve_bias))]
 fn solve_bias(
     joint: WeldJoint,
     r_a: Vec3,
@@ -81,6 +84,7 @@ fn solve_bias(
 
 // The anchors and the point row's bias wait for no velocity: taken first, they are there when the
 // angular row is done.
+#[tactic(auto, unfolding(crate::specs::Weld::solve_weld, crate::specs::Weld::solve_point))]
 pub fn solve_weld(
     base: JointBase,
     mut joint: WeldJoint,

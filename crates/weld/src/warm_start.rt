@@ -8,6 +8,7 @@ use records::body::BodyState;
 use records::joint::{JointBase, WeldJoint};
 
 // The velocities after the impulses that the joint has kept.
+#[tactic(auto, unfolding(crate::specs::Weld::warm_start_weld))]
 pub fn warm_start_weld(
     base: JointBase,
     joint: WeldJoint,
