@@ -46,7 +46,6 @@ pub struct BodyRecord {
 }
 
 // Is the body one that the solver writes to?
-#[tactic(auto, unfolding(crate::specs::Body::is_dynamic))]
 fn is_dynamic(state: BodyState) -> bool
     ensures { result ≡ D.is_dynamic state }
 {
