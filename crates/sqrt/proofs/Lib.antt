@@ -9,7 +9,6 @@ pub mod Units
 pub mod Rounding
 pub mod Nans
 mod Unpacking
-mod Guesses
 mod Scaled
 mod Patterns
 mod RootBits

@@ -36,6 +36,10 @@ sqrt_fits (fin false (suc m) e) h =
 -- ---- above zero the result is finite, and the nearest
 pub sqrt_root_of : (x : Float) → T (positive x) → sqrt x ≡ root_of binary32 (in_units x)
 unfolding sqrt
+sqrt_root_of nan p = absurd p
+sqrt_root_of (inf _) p = absurd p
+sqrt_root_of (fin true _ e) p = absurd p
+sqrt_root_of (fin false zero e) p = absurd p
 sqrt_root_of (fin false (suc m) e) p = refl
 
 module _ (m : ℕ) (e : ℤ) (h : T (fits binary32 (fin false (suc m) e))) (p : T (positive (fin false (suc m) e))) where
@@ -67,6 +71,10 @@ module _ (m : ℕ) (e : ℤ) (h : T (fits binary32 (fin false (suc m) e))) (p : 
   above_zero = record { candidate = (sqrt_fits x h, value_unsigned (sqrt x) (rounded_of n * 2 ^ dropped_of n) value); nearest = nearer }
 
 pub sqrt_nearest : SqrtNearest
+sqrt_nearest nan h p = absurd p
+sqrt_nearest (inf _) h p = absurd p
+sqrt_nearest (fin true _ e) h p = absurd p
+sqrt_nearest (fin false zero e) h p = absurd p
 sqrt_nearest (fin false (suc m) e) h p = above_zero m e h p
 
 pub sqrt_finite : SqrtFinite

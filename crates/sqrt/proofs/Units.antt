@@ -86,6 +86,12 @@ to_bits_units s m e = refl
 
 -- two values that fit and are as many units are the same
 pub same_units : (x y : Float) → T (fits binary32 x) → T (fits binary32 y) → T (unsigned x) → T (unsigned y) → in_units x ≡ in_units y → x ≡ y
+same_units nan y hx hy ux uy h = absurd ux
+same_units (inf _) y hx hy ux uy h = absurd ux
+same_units (fin true m e) y hx hy ux uy h = absurd ux
+same_units (fin false m e) nan hx hy ux uy h = absurd uy
+same_units (fin false m e) (inf _) hx hy ux uy h = absurd uy
+same_units (fin false m e) (fin true d g) hx hy ux uy h = absurd uy
 same_units (fin false m e) (fin false d g) hx hy ux uy h =
     sym (of_bits-to_bits binary32 (fin false m e) hx)
     ∙ ap (of_bits binary32) (to_bits_units false m e ∙ ap (pattern_of false) h ∙ sym (to_bits_units false d g))
