@@ -1,5 +1,6 @@
 -- `isqrt n` is the largest number whose square is at most n, and the only one with n from its square up to the next. Assumes nothing.
-use Rattle.std.proofs.Common.{◌≡◌, ℕ, zero, suc, ◌+◌, ◌*◌, ◌/◌, ◌^◌, ◌<◌, ◌≤◌, Bool, true, false, cond, not, T, leb, ap, ◌∙◌, subst, zero-le, lt_of_lt_of_le, le_of_suc-le-suc, le-add_right, lt_of_le_of_lt, le_antisymm, arith, leb→le, pow_mono, shr_lt}
+use Rattle.std.proofs.Common.{◌≡◌, ℕ, zero, suc, ◌+◌, ◌*◌, ◌/◌, ◌^◌, ◌<◌, ◌≤◌, Bool, true, false, cond, not, T, leb, ap, ◌∙◌, subst, zero-le}
+use Rattle.std.proofs.Common.{lt_of_lt_of_le, le_of_suc-le-suc, le-add_right, lt_of_le_of_lt, le_antisymm, arith, leb→le, pow_mono, shr_lt}
 use lib.Dec.{nleb→lt}
 use lib.Ieee.{size}
 use lib.Ieee.Digits.{size-lt}

@@ -1,5 +1,7 @@
 -- The bit patterns of the numbers of binary32 that are not negative: what number each stands for, and which pattern a number of 24 digits has. Assumes nothing.
-use Rattle.std.proofs.Common.{◌≡◌, ℕ, zero, suc, ◌+◌, ◌*◌, ◌/◌, ◌%◌, ◌^◌, ◌<◌, ◌≤◌, Bool, false, cond, T, eqb, ltb, leb, sym, refl, ap, ◌∙◌, subst, lt_of_lt_of_le, mod-eq_of_lt, zero-lt-suc, div-lt_iff_lt-mul, mul-pos, pow-suc, mul-one, not-le_of_lt, arith, eqb→eq, lt→ltb, leb→le, pow_pos, pow_mono, shl_lt}
+use Rattle.std.proofs.Common.{◌≡◌, ℕ, zero, suc, ◌+◌, ◌*◌, ◌/◌, ◌%◌, ◌^◌, ◌<◌, ◌≤◌, Bool, false, cond, T, eqb, ltb, leb, sym, refl, ap, ◌∙◌, subst}
+use Rattle.std.proofs.Common.{lt_of_lt_of_le, mod-eq_of_lt, zero-lt-suc, div-lt_iff_lt-mul, mul-pos, pow-suc, mul-one, not-le_of_lt, arith, eqb→eq}
+use Rattle.std.proofs.Common.{lt→ltb, leb→le, pow_pos, pow_mono, shl_lt}
 use lib.Dec.{not_T}
 use lib.Count.{count_trailing_zeros, under}
 use lib.Ieee.{Float, nan, inf, fin, binary32, odd, units, minus, of_fields, of_bits}

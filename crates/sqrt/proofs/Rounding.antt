@@ -1,5 +1,10 @@
 -- What `nearer_of` and `root_of` choose, over whole numbers. Assumes nothing.
-use Rattle.std.proofs.Common.{◌≡◌, ℕ, zero, suc, ◌+◌, ◌-◌, ◌*◌, ◌/◌, ◌%◌, ◌^◌, ◌<◌, ◌≤◌, Bool, true, false, cond, not, T, ltb, sym, refl, ap, ◌∙◌, le_trans, le_of_eq, le_refl, lt_of_lt_of_le, le_of_suc-le-suc, lt_of_le_of_lt, le_of_lt, add-le-add, lt_irrefl, mul-le-mul_right, zero-lt-suc, mul_assoc, lt-suc_self, add-lt-add_of_le_of_lt, mul_comm, div-lt_iff_lt-mul, add-mul, mul-le-mul, add_comm, le_antisymm, lt_of_mul-lt-mul_right, mul-le-mul_left, mul-lt-mul_of_pos_right, pow-suc, lt_of_not-le, le-div_iff_mul-le, mul-one, div-mul-le_self, mul_left_comm, arith, lit<, lit≤, ltb→lt, nltb→le, pow_pos, pow_mono, pow-add, shl_lt}
+use Rattle.std.proofs.Common.{◌≡◌, ℕ, zero, suc, ◌+◌, ◌-◌, ◌*◌, ◌/◌, ◌%◌, ◌^◌, ◌<◌, ◌≤◌, Bool, true, false, cond, not, T, ltb, sym, refl, ap, ◌∙◌}
+use Rattle.std.proofs.Common.{le_trans, le_of_eq, le_refl, lt_of_lt_of_le, le_of_suc-le-suc, lt_of_le_of_lt, le_of_lt, add-le-add, lt_irrefl}
+use Rattle.std.proofs.Common.{mul-le-mul_right, zero-lt-suc, mul_assoc, lt-suc_self, add-lt-add_of_le_of_lt, mul_comm, div-lt_iff_lt-mul, add-mul}
+use Rattle.std.proofs.Common.{mul-le-mul, add_comm, le_antisymm, lt_of_mul-lt-mul_right, mul-le-mul_left, mul-lt-mul_of_pos_right, pow-suc}
+use Rattle.std.proofs.Common.{lt_of_not-le, le-div_iff_mul-le, mul-one, div-mul-le_self, mul_left_comm, arith, lit<, lit≤, ltb→lt, nltb→le, pow_pos}
+use Rattle.std.proofs.Common.{pow_mono, pow-add, shl_lt}
 use native.Mathlib.Nat.{mul-lt-mul_of_pos_left, eq_of_mul-eq-mul_right}
 use native.Mathlib.Nat.{pow-succ'}
 use lib.Arith.{lt_of_le-ne}

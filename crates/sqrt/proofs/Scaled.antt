@@ -1,6 +1,9 @@
 -- What `root_of` gives, from a number N of 47 or 48 digits that is its argument but for a power of 4, and the whole number r nearest to N's root:
 -- r * 2 ^ k of the smallest values. Assumes nothing.
-use Rattle.std.proofs.Common.{◌≡◌, ℕ, zero, suc, ◌+◌, ◌-◌, ◌*◌, ◌/◌, ◌^◌, ◌<◌, ◌≤◌, Bool, true, false, cond, not, T, ltb, sym, ap, ◌∙◌, le_trans, le_of_eq, lt_of_lt_of_le, le_of_suc-le-suc, lt_of_le_of_lt, lt_irrefl, mul-le-mul_right, mul_assoc, suc-mul, div-lt_iff_lt-mul, mul-le-mul, le_antisymm, lt_of_mul-lt-mul_right, mul-lt-mul_of_pos_right, mul-pos, lt_of_not-le, le-div_iff_mul-le, mul-suc, le_of_mul-le-mul_right, arith, ltb→lt, nltb→le, pow_pos, pow_mono, pow-add}
+use Rattle.std.proofs.Common.{◌≡◌, ℕ, zero, suc, ◌+◌, ◌-◌, ◌*◌, ◌/◌, ◌^◌, ◌<◌, ◌≤◌, Bool, true, false, cond, not, T, ltb, sym, ap, ◌∙◌, le_trans}
+use Rattle.std.proofs.Common.{le_of_eq, lt_of_lt_of_le, le_of_suc-le-suc, lt_of_le_of_lt, lt_irrefl, mul-le-mul_right, mul_assoc, suc-mul}
+use Rattle.std.proofs.Common.{div-lt_iff_lt-mul, mul-le-mul, le_antisymm, lt_of_mul-lt-mul_right, mul-lt-mul_of_pos_right, mul-pos, lt_of_not-le}
+use Rattle.std.proofs.Common.{le-div_iff_mul-le, mul-suc, le_of_mul-le-mul_right, arith, ltb→lt, nltb→le, pow_pos, pow_mono, pow-add}
 use lib.Ieee.{binary32, size, units}
 use lib.Ieee.Digits.{size-le, size-lt}
 use Rattle.sqrt.specs.Sqrt.{isqrt, nearer_of, root_of}

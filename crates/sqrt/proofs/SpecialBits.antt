@@ -1,5 +1,6 @@
 -- `sqrt` where no root is taken, from the float's bits: at a NaN, at the zeros, at the infinities and below zero. Assumes nothing.
-use Rattle.std.proofs.Common.{◌≡◌, ℕ, zero, suc, ◌+◌, ◌-◌, ◌*◌, ◌/◌, ◌^◌, ◌<◌, ◌≤◌, Bool, true, false, T, ℤ, sym, refl, ap, ◌∙◌, subst, lt_irrefl, arith, pow_pos}
+use Rattle.std.proofs.Common.{◌≡◌, ℕ, zero, suc, ◌+◌, ◌-◌, ◌*◌, ◌/◌, ◌^◌, ◌<◌, ◌≤◌, Bool, true, false, T, ℤ, sym, refl, ap, ◌∙◌, subst, lt_irrefl}
+use Rattle.std.proofs.Common.{arith, pow_pos}
 use lib.Ieee.{Float, nan, inf, fin, binary32, size, of_bits, to_bits, fits, ne, div}
 use lib.Ieee.Bits.{of_bits-to_bits}
 use lib.Ieee.Compare.{differs_from_itself}

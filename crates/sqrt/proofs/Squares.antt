@@ -1,5 +1,7 @@
 -- Squares of whole numbers, which `omega` takes as unknowns. Assumes nothing.
-use Rattle.std.proofs.Common.{◌≡◌, ℕ, suc, ◌+◌, ◌*◌, ◌<◌, ◌≤◌, ap, ◌∙◌, zero-le, lt_of_le_of_lt, le_of_lt, lt_irrefl, mul_assoc, suc-mul, add-mul, mul-le-mul, mul-le-mul_left, mul-lt-mul_of_pos_right, one-mul, lt_of_not-le, mul-one, mul-suc, mul-add, mul_left_comm, arith}
+use Rattle.std.proofs.Common.{◌≡◌, ℕ, suc, ◌+◌, ◌*◌, ◌<◌, ◌≤◌, ap, ◌∙◌, zero-le, lt_of_le_of_lt, le_of_lt, lt_irrefl, mul_assoc, suc-mul, add-mul}
+use Rattle.std.proofs.Common.{mul-le-mul, mul-le-mul_left, mul-lt-mul_of_pos_right, one-mul, lt_of_not-le, mul-one, mul-suc, mul-add, mul_left_comm}
+use Rattle.std.proofs.Common.{arith}
 
 -- of two squares the larger has the larger root
 pub root_lt : (r c : ℕ) → r * r < c * c → r < c
