@@ -3,3 +3,4 @@ pub mod Facts
 pub mod Marks
 mod Limits
 mod One
+mod Others

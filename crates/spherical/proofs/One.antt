@@ -52,6 +52,8 @@ rounded : (s : Bool) (m : ℕ) (e : ℤ) → T (fits binary32 (fin s m e)) → r
 rounded s m e h = go (round binary32 s (m * up e) (down e)) (round-fits binary32 s (m * up e) (down e)) (round_value s m e h)
   where
     go : (y : Float) → T (fits binary32 y) → HasValue y s (m * up e) (down e) → y ≡ fin s m e
+    go nan k v = elim v [ ]
+    go (inf _) k v = elim v [ ]
     go (fin t n g) k v =
         let same : n * up g * 2 ^ 149 / down g ≡ m * up e * 2 ^ 149 / down e =
         div_same (n * up g * 2 ^ 149) (down g) (m * up e * 2 ^ 149) (down e) (down_pos g) (down_pos e)

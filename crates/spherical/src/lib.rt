@@ -38,7 +38,6 @@ fn spherical_sim(base: JointBase, joint: SphericalJoint, angles: LimitAngles) ->
 }
 
 // Prepare; a joint that is no spherical joint is refused.
-#[tactic(auto, unfolding(crate::specs::Spherical::prepare_spherical_joint))]
 pub fn prepare_spherical_joint(
     mut joint: JointSim,
     context: StepContext,
@@ -77,7 +76,6 @@ pub fn prepare_spherical_joint(
 }
 
 // Warm start; the joint comes back as it was, and one of another kind is refused.
-#[tactic(auto, unfolding(crate::specs::Spherical::warm_start_spherical_joint))]
 pub fn warm_start_spherical_joint(
     joint: JointSim,
     state_a: BodyState,
@@ -94,7 +92,6 @@ pub fn warm_start_spherical_joint(
 }
 
 // Solve; a joint that is no spherical joint is refused.
-#[tactic(auto, unfolding(crate::specs::Spherical::solve_spherical_joint))]
 pub fn solve_spherical_joint(
     mut joint: JointSim,
     context: StepContext,

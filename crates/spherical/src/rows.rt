@@ -65,7 +65,6 @@ fn limit_scale(len: f32, max_impulse: f32) -> f32
 
 // The impulse, scaled where it is longer than max_impulse. The choice is of the scale, one number,
 // where the Rust's is of the vector: one times a number is that number.
-#[tactic(auto, unfolding(crate::specs::Steps::limit_scale, crate::specs::Spherical::limit_length, math_functions::specs::Vector::mul_sv))]
 fn limit_length(impulse: Vec3, max_impulse: f32) -> Vec3
     ensures { result ≡ D.limit_length impulse max_impulse }
 {

@@ -90,7 +90,6 @@ fn solve_motor(
 
 // The twist limit's rows, where they are worked. A limit that does not push is passed by a branch,
 // which the processor predicts, so that what follows need not wait for the sum.
-#[tactic(auto, unfolding(crate::specs::Steps::limit_rows_at, constraint::specs::Angular::twist_limit_rows, constraint::specs::Angular::lower_limit_row, constraint::specs::Steps::lower_limit_sum, constraint::specs::Soft::limit_impulse, math_functions::specs::Scalar::max_float))]
 fn limit_rows_at(
     softness: Softness,
     joint: SphericalJoint,
