@@ -39,7 +39,6 @@ fn weld_sim(base: JointBase, joint: WeldJoint, angles: LimitAngles) -> JointSim
 }
 
 // Prepare; a joint that is no weld joint is refused.
-#[tactic(auto, unfolding(crate::specs::Weld::prepare_weld_joint))]
 pub fn prepare_weld_joint(
     mut joint: JointSim,
     context: StepContext,
@@ -78,7 +77,6 @@ pub fn prepare_weld_joint(
 }
 
 // Warm start; a joint that is no weld joint is refused.
-#[tactic(auto, unfolding(crate::specs::Weld::warm_start_weld_joint))]
 pub fn warm_start_weld_joint(joint: JointSim, state_a: BodyState, state_b: BodyState) -> WarmStarted
     ensures { result ≡ D.warm_start_weld_joint joint state_a state_b }
 {
@@ -91,7 +89,6 @@ pub fn warm_start_weld_joint(joint: JointSim, state_a: BodyState, state_b: BodyS
 }
 
 // Solve; a joint that is no weld joint is refused. `context` is unused, as in the Rust.
-#[tactic(auto, unfolding(crate::specs::Weld::solve_weld_joint))]
 pub fn solve_weld_joint(
     mut joint: JointSim,
     context: StepContext,
