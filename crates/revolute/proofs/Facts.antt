@@ -16,6 +16,8 @@ use Rattle.records.specs.declared.body.BodyRecord.{BodyRecord}
 use Rattle.records.specs.declared.joint.RevoluteJoint.{RevoluteJoint}
 use Rattle.records.specs.declared.joint.JointBase.{JointBase}
 use Rattle.records.specs.declared.joint.JointSim.{JointSim}
+use Rattle.records.specs.declared.joint.JointUnion.{JointUnion}
+use Rattle.records.specs.declared.joint.JointUnion.TheVariants.{Revolute, Spherical, Weld, Other}
 use Rattle.records.specs.Joint.{as_revolute, is_revolute, limit_angles, no_angles, after_solve}
 use Rattle.records.specs.Revolute.{with_indices}
 use Rattle.constraint.specs.declared.velocity.Velocities.{Velocities}
@@ -79,7 +81,8 @@ module _ (base : JointBase) (j : RevoluteJoint) (h inv_h : Float) (state_a state
   solve_angles = refl
 
 -- the limit's rows at the angle that is stored are those at the Rust's twist angle: where they are not worked they read none
-pub limits_at_twist : (fixed_rotation : Bool) (s : Softness) (j : RevoluteJoint) (rel_q : Quat) (inv_h : Float) (use_bias : Bool) (m : InvMasses) (v : Velocities) →
+pub limits_at_twist :
+    (fixed_rotation : Bool) (s : Softness) (j : RevoluteJoint) (rel_q : Quat) (inv_h : Float) (use_bias : Bool) (m : InvMasses) (v : Velocities) →
     solve_limits fixed_rotation s j (twist_angle_if (is_worked j.enable_limit fixed_rotation) rel_q) inv_h use_bias m v
     ≡ solve_limits fixed_rotation s j (get_twist_angle rel_q) inv_h use_bias m v
 unfolding solve_limits twist_limit_rows twist_angle_if
@@ -121,6 +124,13 @@ module _ (base : JointBase) (j : RevoluteJoint) (state_a state_b : BodyState) wh
   warm_start_delta_position p q = refl
 
 -- ---- the stages over a joint of any kind
+
+-- a joint that is no revolute joint's record is of another case
+pub other_case : (u : JointUnion) → ((k : RevoluteJoint) → u ≡ Revolute k → ⊥) → is_revolute u ≡ false
+other_case (Revolute r) h = absurd (h r refl)
+other_case (Spherical r) h = refl
+other_case (Weld r) h = refl
+other_case Other h = refl
 
 -- of a context prepare reads h and enable_warm_starting, and a solve h and inv_h
 pub prepare_context : (sim : JointSim) (c d : StepContext) (body_a body_b : BodyRecord) →
@@ -167,7 +177,8 @@ module _ (sim : JointSim) (context : StepContext) (body_a body_b : BodyRecord) w
       refl (λ k. refl)
 
   -- where the number is 0 both angles are NaN
-  pub prepare_angles : (prepare_revolute_joint sim context body_a body_b).number ≡ 0 → (prepare_revolute_joint sim context body_a body_b).joint.angles ≡ no_angles
+  pub prepare_angles : (prepare_revolute_joint sim context body_a body_b).number ≡ 0
+      → (prepare_revolute_joint sim context body_a body_b).joint.angles ≡ no_angles
   unfolding prepare_revolute_joint
   prepare_angles = accepted (λ (r : Prepared). r.number) (λ (r : Prepared). r.joint.angles ≡ no_angles) (as_revolute sim.union_) _ _ refl (λ k. refl)
 

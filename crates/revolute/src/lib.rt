@@ -38,7 +38,6 @@ fn revolute_sim(base: JointBase, joint: RevoluteJoint, angles: LimitAngles) -> J
 }
 
 // Prepare; a joint that is no revolute joint is refused.
-#[tactic(auto, unfolding(crate::specs::Revolute::prepare_revolute_joint))]
 pub fn prepare_revolute_joint(
     mut joint: JointSim,
     context: StepContext,
@@ -76,7 +75,6 @@ pub fn prepare_revolute_joint(
 }
 
 // Warm start; the joint comes back as it was, and one of another kind is refused.
-#[tactic(auto, unfolding(crate::specs::Revolute::warm_start_revolute_joint))]
 pub fn warm_start_revolute_joint(
     joint: JointSim,
     state_a: BodyState,
@@ -93,7 +91,6 @@ pub fn warm_start_revolute_joint(
 }
 
 // Solve; a joint that is no revolute joint is refused.
-#[tactic(auto, unfolding(crate::specs::Revolute::solve_revolute_joint))]
 pub fn solve_revolute_joint(
     mut joint: JointSim,
     context: StepContext,
