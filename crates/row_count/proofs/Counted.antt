@@ -5,14 +5,13 @@ use Prim.Native.Nat.{ℕ, ◌+◌, ◌≤◌}
 use native.Mathlib.Omega.{arith}
 use Rattle.records.specs.declared.joint.JointUnion.{JointUnion}
 use Rattle.records.specs.declared.joint.JointUnion.TheVariants.{Revolute, Spherical, Weld, Other}
-use Rattle.records.specs.declared.joint.JointSim.{JointSim}
 use Rattle.constraint.specs.Angular.{is_worked}
 use Rattle.row_count.specs.Rows.{rows_if, sum_rows}
 use Rattle.row_count.specs.Revolute as R
 use Rattle.row_count.specs.Spherical as S
 use Rattle.row_count.specs.Weld as W
-use Rattle.row_count.specs.RowCount.{rows_of_case, rows_of}
-use Rattle.row_count.specs.Claims.{count_if_on, Named, Between, RowsNamed, RowsBounded}
+use Rattle.row_count.specs.RowCount.{rows_of_case}
+use Rattle.row_count.specs.Claims.{count_if_on, Between, RowsNamed, RowsBounded}
 
 pub if_at_most : (worked : Bool) (n : ℕ) → rows_if worked n ≤ n
 unfolding rows_if

@@ -21,4 +21,5 @@ perp_worked fixed_rotation = not fixed_rotation
 
 -- C-19: the rows that a solve works
 unfoldable pub count_rows : Bool → RevoluteJoint → ℕ
-count_rows fixed_rotation j = sum_rows (spring_worked fixed_rotation j) (motor_worked fixed_rotation j) (limit_worked fixed_rotation j) (perp_worked fixed_rotation)
+count_rows fixed_rotation j =
+    sum_rows (spring_worked fixed_rotation j) (motor_worked fixed_rotation j) (limit_worked fixed_rotation j) (perp_worked fixed_rotation)

@@ -20,4 +20,5 @@ cone_worked fixed_rotation j = is_worked j.enable_cone_limit fixed_rotation
 
 -- C-19: the rows that a solve works
 unfoldable pub count_rows : Bool → SphericalJoint → ℕ
-count_rows fixed_rotation j = sum_rows (spring_worked fixed_rotation j) (motor_worked fixed_rotation j) (twist_limit_worked fixed_rotation j) (cone_worked fixed_rotation j)
+count_rows fixed_rotation j =
+    sum_rows (spring_worked fixed_rotation j) (motor_worked fixed_rotation j) (twist_limit_worked fixed_rotation j) (cone_worked fixed_rotation j)
