@@ -1,7 +1,7 @@
 -- The theorem on order with its hypotheses at the counted slots alone: an accepted list has no call of another slot. Assumes nothing.
 use mathlib.Core.Path.{◌≡◌, refl, sym, ap, ◌∙◌}
 use mathlib.Core.Logic.{◌≢◌}
-use mathlib.Core.Bool.{Bool, true, false, or_false}
+use mathlib.Core.Bool.{Bool, true, false, or-false}
 use mathlib.Core.List.{List, [], ◌∷◌}
 use Prim.Native.Nat.{ℕ, ◌+◌, ◌≤◌, ◌<◌}
 use native.Mathlib.Nat.{lt_of_not-le}
@@ -35,7 +35,7 @@ left_none n j k (c ∷ l) h e = rw (ne_eqb c.slot j (λ p. omega (arith, e.0))) 
 right_none : (n j k : ℕ) (l : List Call) → n ≤ k → Every (λ c. c.slot < n) l → only_of_two j k l ≡ only_of j l
 right_none n j k [] h e = refl
 right_none n j k (c ∷ l) h e =
-    rw (ne_eqb c.slot k (λ p. omega (arith, e.0)), or_false (eqb c.slot j)) (ap (keep_if (eqb c.slot j) c) (right_none n j k l h e.1))
+    rw (ne_eqb c.slot k (λ p. omega (arith, e.0)), or-false (eqb c.slot j)) (ap (keep_if (eqb c.slot j) c) (right_none n j k l h e.1))
 
 module _ (s : Scene) (l₁ l₂ : List ℕ) (a₁ : Accepted s l₁) (a₂ : Accepted s l₂)
     (one : (j : ℕ) → j < s.joint_count → only_of j (calls l₁) ≡ only_of j (calls l₂))

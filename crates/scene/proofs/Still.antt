@@ -72,8 +72,8 @@ float_self nan = refl
 float_self (inf s) = beq_self s
 float_self (fin s m e) = rw (beq_self s, eq-eqb m m refl, exponent_self e)
 
-same_float : (x y : Float) → (same_float x y ≡ true) ↔ (x ≡ y)
-same_float x y = (to_float x y, λ e. ap (same_float x) (sym e) ∙ float_self x)
+same_float_lem : (x y : Float) → (same_float x y ≡ true) ↔ (x ≡ y)
+same_float_lem x y = (to_float x y, λ e. ap (same_float x) (sym e) ∙ float_self x)
 
 -- as code finds it: a NaN is unlike itself, and what is none has a pattern
 
@@ -101,7 +101,7 @@ same_written x y f g = by (same_float x y) refl (eqb (to_bits binary32 x) (to_bi
     by : (a : Bool) → same_float x y ≡ a → (b : Bool) → eqb (to_bits binary32 x) (to_bits binary32 y) ≡ b → b ≡ a
     by true e b p = sym p ∙ eq-eqb _ _ (ap (to_bits binary32) (to_float x y e))
     by false e true p =
-        sym ((same_float x y).1 (sym (of_bits-to_bits binary32 x f) ∙ ap (of_bits binary32) (eqb-true _ _ p) ∙ of_bits-to_bits binary32 y g)) ∙ e
+        sym ((same_float_lem x y).1 (sym (of_bits-to_bits binary32 x f) ∙ ap (of_bits binary32) (eqb-true _ _ p) ∙ of_bits-to_bits binary32 y g)) ∙ e
     by false e false p = refl
 
 -- ---- of two patterns
@@ -188,6 +188,7 @@ module _ (s : Scene) (j n : ℕ) where
   index_counted i h e = lt_of_not-le (λ g. h (subst (OutOf s.body_count) (sym e) g))
 
   named_counted : (place : ℕ) (l : List Call) → NoCause (call_tests s place l) → Listed j l → Names s j n → n < s.body_count
+  named_counted place [] h p names = elim p [ ]
   named_counted place (c ∷ l) h (inl e) names =
       let found = ap (λ k. (joint_at s k).union_) e in
       ⊎_elim (index_counted _ (subst (λ u. ¬ (OutOf s.body_count (index_a u))) found h.1.1.1.0))

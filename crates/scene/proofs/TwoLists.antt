@@ -7,7 +7,7 @@ use native.Mathlib.Omega.{arith}
 use lib.ListN.{length, length-append}
 use Rattle.scene.specs.declared.Scene.{Scene}
 use Rattle.scene.specs.Calls.{Call, call, calls, Every}
-use Rattle.scene.specs.Plain.{cause, verdict, Accepted, run_calls, plain_run}
+use Rattle.scene.specs.Plain.{step, cause, verdict, Accepted, run_calls, plain_run}
 use Rattle.scene.specs.Claims.{Cause6, Cause7, tests, OneAfterOther}
 use Rattle.scene.proofs.Framed.{Framed, framed, framed_start, cause_kept}
 use Rattle.scene.proofs.Accepted.{verdict_answers, answers_none, by_verdict, run_accepted, no_causes, causes_none}
@@ -16,7 +16,7 @@ use Rattle.scene.proofs.Accepted.{verdict_answers, answers_none, by_verdict, run
 
 pub runs_chained : (s : Scene) (a b : List Call) → run_calls (a ++ b) s ≡ run_calls b (run_calls a s)
 runs_chained s [] b = refl
-runs_chained s (c ∷ a) b = runs_chained _ a b
+runs_chained s (c ∷ a) b = runs_chained (step c s) a b
 
 -- no call is cut in two
 calls_chained : (l₁ l₂ : List ℕ) → length l₁ % 2 ≡ 0 → calls (l₁ ++ l₂) ≡ calls l₁ ++ calls l₂
