@@ -52,7 +52,6 @@ pub const POST: u8 = 32;
 
 // Numbers, frames and the softness of a stiff joint, all else as the default has it. Every field is
 // spelled out: a store into a field that is an enum, as type_, has no rule in the prover.
-#[tactic(auto, unfolding(crate::specs::Base::joint_base))]
 pub fn joint_base(type_: JointType, joint: u8, body_a: u8, body_b: u8) -> JointBase
     ensures { result ≡ D.joint_base type_ joint body_a body_b }
 {

@@ -42,7 +42,6 @@ pub fn fixed_body() -> BodyRecord
 }
 
 // A slab at an index of the awake set, with its centre at x.
-#[tactic(auto, unfolding(crate::specs::Body::slab))]
 pub fn slab(index: u8, x: f32) -> BodyRecord
     ensures { result ≡ D.slab index x }
 {
@@ -58,7 +57,6 @@ pub fn slab(index: u8, x: f32) -> BodyRecord
 }
 
 // A dynamic body that moves and turns, the faster the larger `speed`.
-#[tactic(auto, unfolding(crate::specs::Body::moving))]
 pub fn moving(speed: f32) -> BodyState
     ensures { result ≡ D.moving speed }
 {

@@ -11,7 +11,6 @@ use records::joint::{
 };
 
 // The hinge, with impulses that a step before has left.
-#[tactic(auto, unfolding(crate::specs::Door::hinge))]
 fn hinge() -> RevoluteJoint
     ensures { result ≡ D.hinge }
 {

@@ -33,7 +33,6 @@ const TARGET_ROTATION: Quat = Quat {
 };
 
 // The socket, with impulses that a step before has left.
-#[tactic(auto, unfolding(crate::specs::Hip::socket))]
 fn socket() -> SphericalJoint
     ensures { result ≡ D.socket }
 {
@@ -73,7 +72,6 @@ fn socket_joint(pelvis: u8, thigh: u8) -> JointSim
 }
 
 // The pelvis and the thigh are at indices of the awake set.
-#[tactic(auto, unfolding(crate::specs::Hip::hip))]
 pub fn hip(pelvis: u8, thigh: u8) -> Model
     ensures { result ≡ D.hip pelvis thigh }
 {

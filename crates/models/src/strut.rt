@@ -10,7 +10,6 @@ use records::joint::{
 };
 
 // The weld, with impulses that a step before has left.
-#[tactic(auto, unfolding(crate::specs::Strut::weld_record))]
 fn weld_record() -> WeldJoint
     ensures { result ≡ D.weld_record }
 {
