@@ -200,7 +200,8 @@ module _ (sim : JointSim) (context : StepContext) (body_a body_b : BodyRecord) w
       refl (λ k. refl)
 
   -- where the number is 0 both angles are NaN
-  pub prepare_angles : (prepare_spherical_joint sim context body_a body_b).number ≡ 0 → (prepare_spherical_joint sim context body_a body_b).joint.angles ≡ no_angles
+  pub prepare_angles : (prepare_spherical_joint sim context body_a body_b).number ≡ 0
+      → (prepare_spherical_joint sim context body_a body_b).joint.angles ≡ no_angles
   unfolding prepare_spherical_joint
   prepare_angles = accepted (λ (r : Prepared). r.number) (λ (r : Prepared). r.joint.angles ≡ no_angles) (as_spherical sim.union_) _ _ refl (λ k. refl)
 
