@@ -86,7 +86,6 @@ fn solve_motor(
 }
 
 // The two limit rows at the fields of the joint.
-#[tactic(auto, unfolding(crate::specs::Revolute::solve_limits, constraint::specs::Angular::twist_limit_rows, constraint::specs::Angular::lower_limit_row, constraint::specs::Steps::lower_limit_sum, constraint::specs::Soft::limit_impulse, math_functions::specs::Scalar::max_float))]
 fn solve_limits(
     fixed_rotation: bool,
     softness: Softness,
