@@ -3,13 +3,4 @@ pub mod Stored
 pub mod OneCall
 pub mod Proved
 pub mod Indices
-pub mod Again
-pub mod Lent
-pub mod Pure
-pub mod Rows
-pub mod Pieces
-pub mod Calls
-pub mod Stages
 pub mod Planned
-pub mod WarmStart
-pub mod Solve

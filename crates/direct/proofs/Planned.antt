@@ -2,7 +2,8 @@
 --     refuses                   a call that is refused
 --     warm-started, solved      one that is not: what its steps leave is the outcome
 --     write-long                as many states as before
-use mathlib.Core.Path.{◌≡◌, refl, sym, ap, ap₂, ◌∙◌}
+use mathlib.Core.Path.{◌≡◌, refl, sym, ap, ap₂, ◌∙◌, subst}
+use mathlib.Core.Logic.{◌≢◌}
 use mathlib.Core.Bool.{Bool, true, false, cond, not, false≢true}
 use mathlib.Core.List.{List}
 use Prim.Native.Nat.{ℕ, ◌<◌}
@@ -13,7 +14,7 @@ use lib.Ieee.Bits.{is_false}
 use lib.IntN.{ℤ, pos, negsuc}
 use lib.ListN.{length, length-set, get_or, get_or-eq_default}
 use lib.Seq.{set_out}
-use borrow.Author.Tests.{eqb-true, eqb-false, not-false}
+use borrow.Author.Tests.{eqb-true, eqb-false, not-false, ne_eqb}
 use Rattle.math_functions.specs.declared.types.Vec3.{Vec3}
 use Rattle.solver.specs.declared.StepContext.{StepContext}
 use Rattle.records.specs.declared.body.BodyState.{BodyState}
@@ -22,8 +23,11 @@ use Rattle.records.specs.declared.joint.JointUnion.{JointUnion}
 use Rattle.records.specs.declared.joint.JointUnion.TheVariants.{Revolute, Spherical, Weld, Other}
 use Rattle.records.specs.Body.{identity_body_state}
 use Rattle.constraint.specs.declared.velocity.Velocities.{Velocities}
+use Rattle.constraint.specs.declared.answer.Solved.{Solved}
+use Rattle.constraint.specs.declared.answer.WarmStarted.{WarmStarted}
 use Rattle.constraint.specs.Answer.{no_report}
 use Rattle.records.specs.Joint.{case_of}
+use Rattle.joint.specs.declared.store.StatePair.{StatePair}
 use Rattle.joint.specs.Stage.{Staged, staged, of_solve, stage_joint}
 use Rattle.joint.specs.Index.{index_a, index_b, index_cause}
 use Rattle.joint.proofs.Stages.{warm_start_of, solve_of, warm_start_of_lem, solve_of_lem, warm_start_joint_lem}
@@ -32,7 +36,7 @@ use Rattle.scene.specs.Plain.{store_both}
 use Rattle.scene.proofs.Stores.{store_long}
 use Rattle.direct.specs.declared.call.StageCall.{StageCall}
 use Rattle.direct.specs.declared.positions.Positions.{Positions}
-use Rattle.direct.specs.Direct.{is_of_kind, cause, Outcome, answer_of, refused, warm_start, solve, stage_at, direct_call}
+use Rattle.direct.specs.Direct.{is_of_kind, cause, Outcome, answer_of, refused, warm_start, solve, stage_at, direct_call, Leaves}
 use Rattle.direct.proofs.Outcomes.{its_cause, worked_is, refused_is}
 use Rattle.direct.specs.Steps.{position_of, positions_of, read_states, store_at, write_states}
 
@@ -137,3 +141,45 @@ module _ (joint : JointSim) (s : List BodyState) where
   solved kind context use_bias h =
       by_stage (solve kind context use_bias) 0 refl (λ a b. of_solve (solve_of kind joint context a b use_bias)) h
       (λ is. solve_is joint kind a b is context use_bias)
+
+-- ---- what the code answers and leaves, of what its steps answer
+
+module _ (joint : JointSim) (s : List BodyState) (q : Positions) where
+  pub refused_leaves : (call : StageCall) → q ≡ positions_of call.kind joint (length s) → q.answer.number ≢ 0 → Leaves (direct_call call joint s) q.answer joint s
+  refused_leaves call e h =
+      let n : number joint s call ≢ 0 = λ z. h (ap (λ x. x.answer.number) e ∙ z) in
+      let out = refuses joint s call (subst T (sym (ap not (ne_eqb (number joint s call) 0 n))) tt) in
+      (ap (λ x. x.answer) e ∙ ap (λ o. o.answer) out, ap (λ o. o.joint) out, ap (λ o. o.states) out)
+
+  module _ (ab : StatePair) (t : List BodyState) (t-is : t ≡ s) (ab-is : ab ≡ read_states q s) (z : q.answer.number ≡ 0) where
+    worked : (call : StageCall) → q ≡ positions_of call.kind joint (length s) → T (not (not (eqb (number joint s call) 0)))
+    worked call e = subst (λ m. T (not (not (eqb m 0)))) (sym z ∙ ap (λ x. x.answer.number) e) tt
+
+    pair_is : (p : Positions) → q ≡ p → ab ≡ read_states p s
+    pair_is p e = ab-is ∙ ap (λ x. read_states x s) e
+
+    pub warm_start_leaves : (kind : ℕ) → q ≡ positions_of kind joint (length s)
+        → (r : WarmStarted) → r ≡ warm_start_of kind joint ab.state_a ab.state_b
+        → (u : List BodyState) → u ≡ write_states q r.velocities t
+        → Leaves (direct_call (warm_start kind) joint s) q.answer joint u
+    warm_start_leaves kind e r r-is u u-is =
+        let out = warm_started joint s kind (worked (warm_start kind) e) in
+        let pair = pair_is (positions_of kind joint (length s)) e in
+        let stage = r-is ∙ ap (λ x. warm_start_of kind joint x.state_a x.state_b) pair in (
+          ap (λ x. x.answer) e ∙ ap (λ o. o.answer) out,
+          ap (λ o. o.joint) out,
+          u-is ∙ (λ i. write_states (e i) (stage i).velocities (t-is i)) ∙ ap (λ o. o.states) out,
+        )
+
+    pub solve_leaves : (kind : ℕ) → q ≡ positions_of kind joint (length s)
+        → (context : StepContext) (use_bias : Bool) (r : Solved) → r ≡ solve_of kind joint context ab.state_a ab.state_b use_bias
+        → (u : List BodyState) → u ≡ write_states q r.velocities t
+        → Leaves (direct_call (solve kind context use_bias) joint s) (answer_of 0 r.report) r.joint u
+    solve_leaves kind e context use_bias r r-is u u-is =
+        let out = solved joint s kind context use_bias (worked (solve kind context use_bias) e) in
+        let pair = pair_is (positions_of kind joint (length s)) e in
+        let stage = r-is ∙ ap (λ x. solve_of kind joint context x.state_a x.state_b use_bias) pair in (
+          ap (λ x. answer_of 0 x.report) stage ∙ ap (λ o. o.answer) out,
+          ap (λ x. x.joint) stage ∙ ap (λ o. o.joint) out,
+          u-is ∙ (λ i. write_states (e i) (stage i).velocities (t-is i)) ∙ ap (λ o. o.states) out,
+        )

@@ -29,6 +29,7 @@ fn is_of_kind(kind: u8, union_: JointUnion) -> bool
 }
 
 // The first cause of a refusal, or 0.
+#[tactic(auto, unfolding(crate::specs::Direct::cause))]
 fn cause_of(kind: u8, union_: JointUnion, n: usize) -> u32
     ensures { result ≡ D.cause kind union_ n }
 {
