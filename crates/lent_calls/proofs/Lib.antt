@@ -1,9 +1,2 @@
 pub mod OneCall
-pub mod Data
-pub mod Lends
-pub mod Pieces
-pub mod Loop
-pub mod Rows
-pub mod Counts
-pub mod WarmStart
-pub mod Solve
+pub mod Turns
