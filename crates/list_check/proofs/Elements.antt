@@ -1,24 +1,18 @@
 -- Laws on single elements of the arrays, and on filling one. Assumes nothing.
 use mathlib.Core.Path.{◌≡◌, sym, ◌∙◌, refl}
-use mathlib.Core.List.{List, [], ◌∷◌, ◌++◌, map, append_assoc}
+use mathlib.Core.List.{List, [], ◌∷◌, ◌++◌, append_assoc}
 use Prim.Native.Nat.{ℕ, zero, suc, ◌+◌, ◌<◌}
 use native.Mathlib.Nat.{le_of_suc-le-suc}
 use native.Mathlib.Numerals.{add-one}
 use native.Mathlib.Omega.{arith}
-use lib.ListN.{length, get_or, set, take, drop, length-map}
+use lib.ListN.{length, get_or, set, take, drop}
 use lib.Seq.{set_at, take-suc, drop-cons, length-take-le}
-use Rattle.records.specs.contracts.joint.JointSim as JointField
-use Rattle.scene.specs.declared.Scene.{Scene}
 
 -- in range the value past the end does not matter
 pub get_d_any {ℓ} : {A : Type ℓ} (l : List A) (i : ℕ) (d e : A) → i < length l → get_or l i d ≡ get_or l i e
 get_d_any [] i d e h = absurd (omega arith)
 get_d_any (a ∷ l) zero d e h = refl
 get_d_any (a ∷ l) (suc i) d e h = get_d_any l i d e (le_of_suc-le-suc h)
-
--- an array's length, as the ownership of a scene tells it
-pub joints_long : (s : Scene) → length (map (JointField.the_field).into s.joints) ≡ 32 → length s.joints ≡ 32
-joints_long s e = sym (length-map s.joints (JointField.the_field).into) ∙ e
 
 -- filling an array from another
 pub fill_more {ℓ} : {A : Type ℓ} (bs o w : List A) (k : ℕ) (d : A) → w ≡ take k bs ++ drop k o → k < length bs → k < length o

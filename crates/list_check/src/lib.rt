@@ -65,6 +65,7 @@ fn stage_cause(of_joint: u32, stage: u8) -> u32
 }
 
 // The cause of a refusal before any call is looked at, or 0.
+#[tactic(auto, unfolding(scene::specs::Plain::early_cause))]
 fn early_cause(body_count: u32, joint_count: u32, bytes: usize) -> u32
     ensures { result ≡ early_cause body_count joint_count bytes }
 {
