@@ -1,28 +1,22 @@
 -- Laws on single elements of the arrays: a body's position, what is read and stored there, and filling an array. Assumes nothing.
 use mathlib.Core.Path.{◌≡◌, sym, ap, ◌∙◌, refl}
 use mathlib.Core.Bool.{Bool, true, false, cond}
-use mathlib.Core.List.{List, [], ◌∷◌, ◌++◌, map, append-nil}
+use mathlib.Core.List.{List, [], ◌∷◌, ◌++◌}
 use Prim.Native.Nat.{ℕ, ◌≤◌, ◌<◌}
 use native.Mathlib.Omega.{arith}
 use lib.Dec.{ltb}
 use lib.IntN.{ℤ, pos, negsuc}
-use lib.ListN.{length, get_or, set, take, drop, replicate, length-map, get_or-append, get_or-eq_default}
+use lib.ListN.{length, get_or, set, take, drop, replicate, get_or-append, get_or-eq_default}
 use lib.Seq.{set_out, set_at, set-append_left, take_all, get_or_at}
 use borrow.Author.Tests.{lt-ltb, ltb-true, ltb-false}
-use Rattle.records.specs.contracts.body.BodyState as BodyField
 use Rattle.math_functions.specs.declared.types.Vec3.{Vec3}
 use Rattle.records.specs.declared.body.BodyState.{BodyState}
 use Rattle.records.specs.Body.{is_dynamic, store_velocities, identity_body_state}
-use Rattle.scene.specs.declared.Scene.{Scene}
 use Rattle.scene.specs.Scene.{state_at, store}
 use Rattle.scene.proofs.Stores as Stores
 use Rattle.scene.proofs.Stores.{store_none}
 use Rattle.list_check.proofs.Elements.{get_d_any}
 use Rattle.call_list.specs.Positions.{body_position, joint_position, with_identity}
-
--- the array's length, as the ownership of a scene tells it
-pub bodies_long : (s : Scene) → length (map (BodyField.the_field).into s.bodies) ≡ 32 → length s.bodies ≡ 32
-bodies_long s e = sym (length-map s.bodies (BodyField.the_field).into) ∙ e
 
 -- ---- positions
 
@@ -88,13 +82,10 @@ kept_is us long (pos n) y d v w e = by (ltb n 32) refl e
 pub store_long : (us : List BodyState) (z : ℤ) (v w : Vec3) → length us ≡ 32 → length (store us z v w) ≡ 32
 store_long us z v w h = Stores.store_long us z v w ∙ h
 
--- ---- filling an array from another, with the identity state after it or without
+-- ---- filling an array from another, with the identity state after it
 
 pub fill_33 : (bs w : List BodyState) (k : ℕ) → length bs ≡ 32 → k ≡ 32 → w ≡ take k bs ++ drop k (replicate 33 identity_body_state) → w ≡ with_identity bs
 unfolding with_identity
 fill_33 bs w k long e q =
     let n : length bs ≤ 32 = omega arith in
     q ∙ rw e (ap (λ l. l ++ (identity_body_state ∷ [])) (take_all 32 bs n))
-
-pub fill_32 : (bs w : List BodyState) (k : ℕ) → k ≡ 32 → w ≡ take k bs ++ drop k (replicate 32 identity_body_state) → w ≡ take 32 bs
-fill_32 bs w k e q = q ∙ rw e (append-nil (take 32 bs))

@@ -1,5 +1,5 @@
 -- The run's loop, as it goes through the bytes of a list: the calls before `k` are worked. Assumes nothing.
-use mathlib.Core.Path.{◌≡◌, refl, ap, ◌∙◌}
+use mathlib.Core.Path.{◌≡◌, ap, ◌∙◌}
 use mathlib.Core.List.{List, [], ◌∷◌}
 use Prim.Native.Nat.{ℕ, ◌+◌, ◌*◌, ◌≤◌, ◌<◌}
 use native.Mathlib.Omega.{arith}
@@ -23,10 +23,6 @@ pub record LoopInvariant (s : Scene) (l : List ℕ) (js : List JointSim) (bs : L
   pub long_bodies : length bodies ≡ 32
   pub long_joints : length js ≡ 32
   pub made : run_calls (calls (drop (2 * k) l)) (with_bodies_and_joints s bodies js) ≡ run_calls (calls l) s
-
-pub invariant_start : (s : Scene) (l : List ℕ) (bs : List BodyState) → length s.bodies ≡ 32 → length s.joints ≡ 32 → bs ≡ with_identity s.bodies
-    → LoopInvariant s l s.joints bs 0
-invariant_start s l bs b j e = record { bodies = s.bodies; holds = e; long_bodies = b; long_joints = j; made = refl }
 
 module _ (s : Scene) (l : List ℕ) (js : List JointSim) (bs : List BodyState) (k : ℕ) (w : LoopInvariant s l js bs k) where
   pub invariant_more : (slot stage : ℕ) (ws : List BodyState) (next : List JointSim) → 2 * k + 1 < length l

@@ -37,6 +37,7 @@ pub fn positions_of(joint: JointSim) -> Positions
 }
 
 // A code, and 6 past the last slot.
+#[tactic(auto, unfolding(crate::specs::Positions::code_in))]
 fn code_in(slot: u8, code: u8) -> u8
     ensures { result ≡ D.code_in slot code }
 {
@@ -45,6 +46,7 @@ fn code_in(slot: u8, code: u8) -> u8
 
 // Which stage of which kind a call is, in one number: for a warm start that of the joint's case, for a
 // solve three more, and 6 for the empty case and past the last slot.
+#[tactic(auto, unfolding(crate::specs::Positions::stage_code))]
 pub fn stage_code(slot: u8, joint: JointSim, stage: u8) -> u8
     ensures { result ≡ D.stage_code slot joint.union_ stage }
 {
@@ -71,6 +73,7 @@ pub fn stage_code(slot: u8, joint: JointSim, stage: u8) -> u8
 }
 
 // A slot's position among 32 joints: 0 for one past them, whose calls work no joint.
+#[tactic(auto, unfolding(crate::specs::Positions::joint_position))]
 pub fn joint_position(slot: u8) -> usize
     ensures { (result < 32) × (result ≡ D.joint_position slot) }
 {

@@ -28,6 +28,7 @@ fn same_vector(v: Vec3, w: Vec3) -> bool
     x & y & z
 }
 
+#[tactic(auto, unfolding(scene::specs::Plain::same_velocities))]
 pub fn same_velocities(a: BodyState, b: BodyState) -> bool
     ensures { result ≡ same_velocities a b }
 {

@@ -70,7 +70,8 @@ module _ (s : Scene) (l : List ℕ) (c : ℕ) (is : c ≡ early_cause s.body_cou
 -- ---- the check's loop
 
 module _ (l : List ℕ) (i : ℕ) (s : Scene) (p : ℕ) (z : Verdict) (q : first_cause s p (calls (drop i l)) ≡ z) where
-  pub check_more : (c : ℕ) → i + 1 < length l → c ≡ cause s (call (get_or l i 0) (get_or l (i + 1) 0)) → c ≡ 0 → first_cause s (p + 1) (calls (drop (i + 2) l)) ≡ z
+  pub check_more : (c : ℕ) → i + 1 < length l → c ≡ cause s (call (get_or l i 0) (get_or l (i + 1) 0)) → c ≡ 0
+      → first_cause s (p + 1) (calls (drop (i + 2) l)) ≡ z
   check_more c h e o = rw (eq-eqb (cause s (call (get_or l i 0) (get_or l (i + 1) 0))) 0 (sym e ∙ o)) at (rw (calls_here l i h) at q)
 
   pub check_stop : (c : ℕ) → i + 1 < length l → c ≡ cause s (call (get_or l i 0) (get_or l (i + 1) 0)) → c ≢ 0 → verdict_of c p ≡ z
