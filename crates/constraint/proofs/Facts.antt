@@ -111,6 +111,7 @@ module _ {K A : Type 0} where
   unfolding Option-elim
   both_of_kind number union kind_of P u refusal work one q = by (kind_of u) refl
     where
-      by : (found : Option K) → kind_of u ≡ found → number (Option-elim found refusal work) ≡ 0 → BothOfKind kind_of P u (union (Option-elim found refusal work))
+      by : (found : Option K) → kind_of u ≡ found → number (Option-elim found refusal work) ≡ 0
+          → BothOfKind kind_of P u (union (Option-elim found refusal work))
       by none e z = absurd (omega (arith, one, z))
       by (some k) e z = let r = q k in record { joint = k; next = r.0; was = e; became = r.1; holds = r.2 }

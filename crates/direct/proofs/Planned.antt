@@ -145,7 +145,8 @@ module _ (joint : JointSim) (s : List BodyState) where
 -- ---- what the code answers and leaves, of what its steps answer
 
 module _ (joint : JointSim) (s : List BodyState) (q : Positions) where
-  pub refused_leaves : (call : StageCall) → q ≡ positions_of call.kind joint (length s) → q.answer.number ≢ 0 → Leaves (direct_call call joint s) q.answer joint s
+  pub refused_leaves : (call : StageCall) → q ≡ positions_of call.kind joint (length s) → q.answer.number ≢ 0
+      → Leaves (direct_call call joint s) q.answer joint s
   refused_leaves call e h =
       let n : number joint s call ≢ 0 = λ z. h (ap (λ x. x.answer.number) e ∙ z) in
       let out = refuses joint s call (subst T (sym (ap not (ne_eqb (number joint s call) 0 n))) tt) in

@@ -45,5 +45,6 @@ module _ (call : StageCall) (joint : JointSim) (states : List BodyState) (body_c
         within = omega arith;
         whole = length-append t (drop n out.states) ∙ omega (arith, long, length-take n out.states, length-drop n out.states, reached.whole);
         holds = called ∙ (λ i. beside (rest i) (direct_call call out.joint (lent i)))
-            ∙ subst (λ m. one_more call body_count out ≡ lent_calls call joint states body_count m) (sym (add-one made)) (ap (one_more call body_count) reached.holds);
+            ∙ subst (λ m. one_more call body_count out ≡ lent_calls call joint states body_count m) (sym (add-one made))
+            (ap (one_more call body_count) reached.holds);
       }

@@ -91,7 +91,6 @@ pub fn mul_mm(a: Matrix3, b: Matrix3) -> Matrix3
 
 // General matrix inverse. Row by row it is the cross products of the columns over the determinant,
 // so each entry is computed at its own place: nothing is turned over afterwards.
-#[tactic(auto, unfolding(crate::specs::Matrix::invert_matrix, crate::specs::Matrix::invert_matrix_mark, crate::specs::Matrix::transpose, crate::specs::Vector::mul_sv, crate::specs::Vector::cross))]
 pub fn invert_matrix(m: Matrix3) -> MarkedMatrix3
     ensures { result ≡ D.marked_matrix3 (D.invert_matrix m) (D.invert_matrix_mark m) }
 {

@@ -57,10 +57,12 @@ each_alike : (j : ℕ) → only_of j (calls first_then_second) ≡ only_of j (ca
 each_alike j = either_order (eqb 0 j) (eqb 1 j) _ _ (λ p q. omega (arith, eqb-true 0 j p, eqb-true 1 j q))
 
 -- where the first body ends with a dynamic one in the middle, in both orders; and where the first and the last end with one that is not dynamic
-ends : (end_x 0x1000 first_then_second 0 ≡ two) × (end_x 0x1000 second_then_first 0 ≡ four) × (end_x 0 first_then_second 0 ≡ two) × (end_x 0 first_then_second 2 ≡ four)
+ends : (end_x 0x1000 first_then_second 0 ≡ two) × (end_x 0x1000 second_then_first 0 ≡ four)
+    × (end_x 0 first_then_second 0 ≡ two) × (end_x 0 first_then_second 2 ≡ four)
 unfolding chain plain_run verdict early_cause cause step store is_still same_velocities Option-elim Body.is_dynamic Body.store_velocities
     Stage.stage_joint Stage.warm_start_as Stage.solve_as
-    Weld.solve_weld_joint Weld.solve_weld Weld.joint_rotation Weld.solve_angular Weld.weld_angular_row Weld.solve_bias Weld.solve_point Weld.point_row Weld.is_soft
+    Weld.solve_weld_joint Weld.solve_weld Weld.joint_rotation Weld.solve_angular Weld.weld_angular_row Weld.solve_bias Weld.solve_point
+    Weld.point_row Weld.is_soft
     Velocity.velocities_of Velocity.inv_masses_of Velocity.apply_point Soft.soft_impulse3 Soft.soft_bias3
     Rotation.flipped_relative_rotation Rotation.relative_rotation Rotation.same_polarity Angular.is_worked
     Point.point_bias Point.point_mass Point.point_cdot_grouped Scalar.abs_float

@@ -77,7 +77,8 @@ or_false : (a b : Bool) → a || b ≡ false → (a ≡ false) × (b ≡ false)
 or_false true b e = absurd (true≢false e)
 or_false false b e = (refl, e)
 
-pub clash_yes : (bs : List BodyState) (x y : ℤ) → clash bs x y ≡ true → (n : ℕ) × (x ≡ pos n) × (y ≡ pos n) × (is_dynamic (get_or bs n identity_body_state) ≡ true)
+pub clash_yes : (bs : List BodyState) (x y : ℤ) → clash bs x y ≡ true
+    → (n : ℕ) × (x ≡ pos n) × (y ≡ pos n) × (is_dynamic (get_or bs n identity_body_state) ≡ true)
 clash_yes bs (pos m) (pos n) e =
     let h = (and-eq-true_iff (eqb m n) (is_dynamic (get_or bs m identity_body_state))).0 e in
     (m, refl, ap pos (sym (eqb-true m n h.0)), h.1)

@@ -51,7 +51,8 @@ rest_dynamic : (b : BodyState) → is_dynamic (rest_of b) ≡ is_dynamic b
 unfolding is_dynamic
 rest_dynamic b = refl
 
-pub dynamic_at : (bs cs : List BodyState) → SameRest bs cs → (n : ℕ) → is_dynamic (get_or bs n identity_body_state) ≡ is_dynamic (get_or cs n identity_body_state)
+pub dynamic_at : (bs cs : List BodyState) → SameRest bs cs → (n : ℕ)
+    → is_dynamic (get_or bs n identity_body_state) ≡ is_dynamic (get_or cs n identity_body_state)
 dynamic_at bs cs e n =
     sym (rest_dynamic (get_or bs n identity_body_state)) ∙ ap is_dynamic (rest_at bs cs e n) ∙ rest_dynamic (get_or cs n identity_body_state)
 
@@ -87,7 +88,8 @@ not_dynamic : (b d : Bool) → b ≡ true → b && d ≡ false → d ≡ false
 not_dynamic b d e h = rw e at h
 
 -- a store is not seen at another body
-pub elsewhere : (bs : List BodyState) (m n : ℕ) (v w : Vec3) → (m ≡ n → ⊥) → get_or (store bs (pos m) v w) n identity_body_state ≡ get_or bs n identity_body_state
+pub elsewhere : (bs : List BodyState) (m n : ℕ) (v w : Vec3) → (m ≡ n → ⊥)
+    → get_or (store bs (pos m) v w) n identity_body_state ≡ get_or bs n identity_body_state
 unfolding store
 elsewhere bs m n v w ne = get_or-set_other bs m n _ identity_body_state (λ e. ne (sym e))
 
