@@ -9,7 +9,7 @@ mod words;
 
 use joints::{is_13, is_14, is_15, is_16};
 use leaves::{is_1, is_2, is_3, is_4, is_5, is_6, is_7, is_8, is_9, is_10, is_11, is_12};
-use libc::STDOUT_FILENO;
+use std::io;
 
 // How many examples ran, and how many of them differed.
 #[derive(Clone, Copy)]
@@ -54,14 +54,11 @@ fn count_joints(t: Tally) -> Tally {
     count(t, is_16())
 }
 
-fn main() {
+fn main(rt: HostRuntime) -> io::Result<()> {
     let none = Tally {
         run: 0,
         differing: 0,
     };
     let t = count_joints(count_leaves(none));
-    io::print_decimal(STDOUT_FILENO, t.run);
-    io::write_all(STDOUT_FILENO, b" ");
-    io::print_decimal(STDOUT_FILENO, t.differing);
-    io::write_all(STDOUT_FILENO, b"\n");
+    println!(rt; "{} {}", t.run, t.differing)
 }

@@ -35,7 +35,12 @@ ghost use Rattle.std.specs.Prelude.{◌≤◌, length};
 
 use cases::run_cases;
 use counts::{Counts, no_cases, one_not_run, sum};
-use libc::{STDIN_FILENO, STDOUT_FILENO};
+use std::env::FillError;
+use std::fs::File;
+use std::io;
+use std::io::Read;
+use std::rt::{Env, Files};
+use std::str::from_utf8;
 
 // What the cases came to, and how far the input has been.
 #[derive(Clone, Copy)]
@@ -102,17 +107,16 @@ fn run_block(buf: &mut [u8], s: State, end: usize) -> State
 }
 
 // Reads once, after the bytes that were kept, and runs what is there.
-fn turn(buf: &mut [u8], fd: i32, s: State) -> State {
+fn turn<R: Read>(buf: &mut [u8], input: &mut R, s: State) -> State {
     let kept = s.kept;
     if kept >= buf.len() {
         return ended(s, true);
     }
-    let got = libc::read(fd, &mut buf[kept..]);
-    if got <= 0 {
-        return ended(s, got < 0);
+    match input.read(&mut buf[kept..]) {
+        Ok(0) => ended(s, false),
+        Ok(got) => run_block(buf, s, kept + got),
+        Err(_) => ended(s, true),
     }
-    let end = kept + io::count(got, &buf[kept..]);
-    run_block(buf, s, end)
 }
 
 // Before an input, with what the earlier ones came to.
@@ -127,59 +131,61 @@ fn begun(counts: Counts) -> State {
 
 // Runs one more input. A proved loop has to end, and nothing says that the input does. So the loop
 // counts its turns down, from a number that no run uses up.
-fn replay(buf: &mut [u8], fd: i32, before: State) -> State {
+fn replay<R: Read>(buf: &mut [u8], input: &mut R, before: State) -> State {
     let mut s = begun(before.counts);
     let mut turns = u64::MAX;
     while turns > 0 && s.has_more {
-        s = turn(buf, fd, s);
+        s = turn(buf, input, s);
         turns -= 1;
     }
     s
 }
 
-// Runs the file that argument i names. One that cannot be opened counts as one that cannot be read.
-fn replay_file(buf: &mut [u8], i: usize, before: State) -> State {
-    let mut path = io::buffer();
-    let length = os::arg(i, &mut path);
-    if os::errno() != 0 {
+// Runs the file that argument i names. One that cannot be opened counts as one that cannot be read:
+// so does a name that is not UTF-8, since the library opens no other.
+fn replay_file<R: Files + Env>(rt: &R, buf: &mut [u8], i: usize, before: State) -> State {
+    let mut path = [0u8; 4096];
+    let Ok(length) = rt.arg(i, &mut path) else {
         return ended(before, true);
-    }
-    let fd = os::open_read(&path[..length]);
-    if fd < 0 {
+    };
+    let Ok(name) = from_utf8(&path[..length]) else {
         return ended(before, true);
-    }
-    let s = replay(buf, fd, before);
-    libc::close(fd);
-    s
+    };
+    let Ok(mut file) = File::open(rt, name) else {
+        return ended(before, true);
+    };
+    replay(buf, &mut file, before)
 }
 
-fn replay_files(buf: &mut [u8], before: State) -> State {
+// Whether there is an argument i. One that is not empty does not fit here.
+fn has_arg(rt: &impl Env, i: usize) -> bool {
+    !matches!(rt.arg(i, &mut []), Err(FillError::NotPresent))
+}
+
+fn replay_files<R: Files + Env>(rt: &R, buf: &mut [u8], before: State) -> State {
     let mut s = before;
-    let count = os::arg_count();
-    let mut i = 1usize;
-    while i < count {
-        s = replay_file(buf, i, s);
-        i += 1;
+    for i in 1..usize::MAX {
+        if !has_arg(rt, i) {
+            break;
+        }
+        s = replay_file(rt, buf, i, s);
     }
     s
 }
 
-fn print_line(run: u64, differing: u64) {
-    io::print_decimal(STDOUT_FILENO, run);
-    io::write_all(STDOUT_FILENO, b" ");
-    io::print_decimal(STDOUT_FILENO, differing);
-    io::write_all(STDOUT_FILENO, b"\n");
+fn print_line(rt: &impl Print, run: u64, differing: u64) -> io::Result<()> {
+    println!(rt; "{run} {differing}")
 }
 
-fn print_counts(c: Counts) {
-    print_line(c.run, c.differing);
-    print_line(c.angles, c.angles_differing);
-    print_line(c.marks, c.marks_differing);
+fn print_counts(rt: &impl Print, c: Counts) -> io::Result<()> {
+    print_line(rt, c.run, c.differing)?;
+    print_line(rt, c.angles, c.angles_differing)?;
+    print_line(rt, c.marks, c.marks_differing)
 }
 
-fn main() {
-    let mut buf = io::large_buffer();
-    let read = replay(&mut buf, STDIN_FILENO, begun(no_cases()));
-    let s = replay_files(&mut buf, read);
-    print_counts(s.counts);
+fn main(rt: HostRuntime) -> io::Result<()> {
+    let mut buf = [0u8; 65536];
+    let read = replay(&mut buf, &mut rt.stdin(), begun(no_cases()));
+    let s = replay_files(&rt, &mut buf, read);
+    print_counts(&rt, s.counts)
 }
