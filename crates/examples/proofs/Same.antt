@@ -27,31 +27,31 @@ same_floats [] (y ∷ ys) = false
 same_floats (x ∷ xs) [] = false
 same_floats (x ∷ xs) (y ∷ ys) = same_float x y && same_floats xs ys
 
-same_bool : (s t : Bool) → T (beq s t) → s ≡ t
-same_bool true true h = refl
-same_bool true false h = absurd h
-same_bool false true h = absurd h
-same_bool false false h = refl
+same_bool_lem : (s t : Bool) → T (beq s t) → s ≡ t
+same_bool_lem true true h = refl
+same_bool_lem true false h = absurd h
+same_bool_lem false true h = absurd h
+same_bool_lem false false h = refl
 
-same_int : (a b : ℤ) → T (same_int a b) → a ≡ b
-same_int (pos a) (pos b) h = ap pos (eqb→eq a b h)
-same_int (pos a) (negsuc b) h = absurd h
-same_int (negsuc a) (pos b) h = absurd h
-same_int (negsuc a) (negsuc b) h = ap negsuc (eqb→eq a b h)
+same_int_lem : (a b : ℤ) → T (same_int a b) → a ≡ b
+same_int_lem (pos a) (pos b) h = ap pos (eqb→eq a b h)
+same_int_lem (pos a) (negsuc b) h = absurd h
+same_int_lem (negsuc a) (pos b) h = absurd h
+same_int_lem (negsuc a) (negsuc b) h = ap negsuc (eqb→eq a b h)
 
-same_float : (x y : Float) → T (same_float x y) → x ≡ y
-same_float nan nan h = refl
-same_float nan (inf t) h = absurd h
-same_float nan (fin t n d) h = absurd h
-same_float (inf s) nan h = absurd h
-same_float (inf s) (inf t) h = ap inf (same_bool s t h)
-same_float (inf s) (fin t n d) h = absurd h
-same_float (fin s m e) nan h = absurd h
-same_float (fin s m e) (inf t) h = absurd h
-same_float (fin s m e) (fin t n d) h =
-    let p = same_bool s t (and_l (beq s t) (eqb m n) (and_l (beq s t && eqb m n) (same_int e d) h)) in
+same_float_lem : (x y : Float) → T (same_float x y) → x ≡ y
+same_float_lem nan nan h = refl
+same_float_lem nan (inf t) h = absurd h
+same_float_lem nan (fin t n d) h = absurd h
+same_float_lem (inf s) nan h = absurd h
+same_float_lem (inf s) (inf t) h = ap inf (same_bool_lem s t h)
+same_float_lem (inf s) (fin t n d) h = absurd h
+same_float_lem (fin s m e) nan h = absurd h
+same_float_lem (fin s m e) (inf t) h = absurd h
+same_float_lem (fin s m e) (fin t n d) h =
+    let p = same_bool_lem s t (and_l (beq s t) (eqb m n) (and_l (beq s t && eqb m n) (same_int e d) h)) in
     let q = eqb→eq m n (and_r (beq s t) (eqb m n) (and_l (beq s t && eqb m n) (same_int e d) h)) in
-    let r = same_int e d (and_r (beq s t && eqb m n) (same_int e d) h) in
+    let r = same_int_lem e d (and_r (beq s t && eqb m n) (same_int e d) h) in
     cc
 
 pub same_floats_lem : (xs ys : List Float) → T (same_floats xs ys) → xs ≡ ys
@@ -59,6 +59,6 @@ same_floats_lem [] [] h = refl
 same_floats_lem [] (y ∷ ys) h = absurd h
 same_floats_lem (x ∷ xs) [] h = absurd h
 same_floats_lem (x ∷ xs) (y ∷ ys) h =
-    let p = same_float x y (and_l (same_float x y) (same_floats xs ys) h) in
+    let p = same_float_lem x y (and_l (same_float x y) (same_floats xs ys) h) in
     let q = same_floats_lem xs ys (and_r (same_float x y) (same_floats xs ys) h) in
     cc

@@ -23,6 +23,7 @@ fn from_bytes(a: u8, b: u8, c: u8, d: u8) -> u32
 }
 
 // The word at index i.
+#[tactic(auto, unfolding(crate::specs::Words::word_at))]
 pub fn word(p: &[u8], i: usize) -> u32
     ensures { result ≡ D.word_at p.now i }
 {
