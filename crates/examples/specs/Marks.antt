@@ -2,13 +2,12 @@
 -- otherwise, and prepares. Statements and the definitions that they cite. Assumes nothing.
 use Rattle.std.specs.Prelude.{◌≡◌, ℕ, Bool, true, false, [], ◌∷◌, pos, Float}
 use Rattle.std.specs.Float.{nan}
-use Rattle.math_functions.specs.declared.types.Vec3.{Vec3}
 use Rattle.math_functions.specs.declared.mark.Mark.{Mark}
 use Rattle.math_functions.specs.declared.mark.Mark.TheVariants.{None, Solved, FellBack}
 use Rattle.math_functions.specs.Float.{lit, neg, zero, one, two}
 use Rattle.math_functions.specs.Types.{vec3, matrix3, vec3_zero, mat3_zero, transform_identity}
 use Rattle.solver.specs.declared.StepContext.{StepContext}
-use Rattle.solver.specs.Solver.{softness, no_softness, context_with}
+use Rattle.solver.specs.Solver.{softness, context_with}
 use Rattle.records.specs.declared.body.BodyState.{BodyState}
 use Rattle.records.specs.declared.body.BodyRecord.{BodyRecord}
 use Rattle.records.specs.declared.joint.JointSim.{JointSim}
