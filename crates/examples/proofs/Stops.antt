@@ -26,8 +26,8 @@ hinge_stops =
     }
 
 pub ball_stops : BallStops
-unfolding Ieee.of_bits Ieee.neg Ieee.lt Ieee.eq Ieee.le Stops.is_pushing Stops.is_at_lower Stops.is_at_upper Stops.sum_stops Stops.spherical_stops Stops.stops_of
-    Stops.stop_code
+unfolding Ieee.of_bits Ieee.neg Ieee.lt Ieee.eq Ieee.le Stops.is_pushing Stops.is_at_lower Stops.is_at_upper Stops.sum_stops Stops.spherical_stops
+    Stops.stops_of Stops.stop_code
 ball_stops =
     record {
       lower = refl;

@@ -116,7 +116,9 @@ ball =
 abbrev opposite : Scene
 opposite =
     let base = joint_base_on Kind.Spherical (transform vec3_zero (quat vec3_axis_x zero)) in
-    scene_of (prepare_spherical_joint (joint_sim base (Spherical ball) no_angles) half_second fixed turns0).joint (turning zero) identity_body_state 1 half_second
+    scene_of
+    (prepare_spherical_joint (joint_sim base (Spherical ball) no_angles) half_second fixed turns0).joint
+    (turning zero) identity_body_state 1 half_second
 
 -- example 13's two welded blocks of inverse mass 1, with states of our own
 abbrev blocks : BodyState → BodyState → Scene

@@ -82,7 +82,8 @@ slim0 =
 -- a hinge of the world and body 0
 abbrev hinged : BodyRecord → JointSim
 hinged body_b =
-    (prepare_revolute_joint (joint_sim (joint_base Kind.Revolute) (Revolute (hinge false zero zero false zero zero zero)) no_angles) half_second fixed body_b).joint
+    (prepare_revolute_joint
+    (joint_sim (joint_base Kind.Revolute) (Revolute (hinge false zero zero false zero zero zero)) no_angles) half_second fixed body_b).joint
 
 -- ---- what is seen of them
 

@@ -7,4 +7,7 @@ from_bytes a b c d = a + b * 256 + c * 65536 + d * 16777216
 
 -- the word at an index, and 0 where there is none
 unfoldable pub word_at : List ℕ → ℕ → ℕ
-word_at p i = cond (nat_lt i (length p / 4)) (from_bytes (slice_index p (i * 4)) (slice_index p (i * 4 + 1)) (slice_index p (i * 4 + 2)) (slice_index p (i * 4 + 3))) 0
+word_at p i =
+    cond (nat_lt i (length p / 4))
+    (from_bytes (slice_index p (i * 4)) (slice_index p (i * 4 + 1)) (slice_index p (i * 4 + 2)) (slice_index p (i * 4 + 3)))
+    0
