@@ -7,10 +7,11 @@ mod lists;
 
 ghost use Rattle.std.specs.Prelude.{◌<◌};
 
-use bench_wall::arguments::argument;
+use bench_wall::arguments::{argument, has_argument};
 use bench_wall::rows::{write_checksum, write_row};
 use leaves::{arctangents, roots};
 use lists::run_lists;
+use std::io;
 
 // A row for each kind of joints and each kind of list, then the two leaves.
 const ROWS: u8 = 18;
@@ -26,22 +27,23 @@ fn work(row: u8, repeats: u64) -> u32
     }
 }
 
-fn write_rows() {
+fn write_rows(rt: &impl Print) -> io::Result<()> {
     let mut row = 0u8;
     while row < ROWS {
-        write_row(row, work(row, 1));
+        write_row(rt, row, work(row, 1))?;
         row += 1;
     }
+    Ok(())
 }
 
-fn main() {
-    if os::arg_count() < 3 {
-        write_rows();
-        return;
+fn main(rt: HostRuntime) -> io::Result<()> {
+    if !has_argument(&rt, 2) {
+        return write_rows(&rt);
     }
-    let row = argument(1);
-    let repeats = argument(2);
+    let row = argument(&rt, 1);
+    let repeats = argument(&rt, 2);
     if row < ROWS as u64 {
-        write_checksum(work(row as u8, repeats));
+        return write_checksum(&rt, work(row as u8, repeats));
     }
+    Ok(())
 }

@@ -2,6 +2,8 @@
 ghost use Rattle.std.specs.Prelude.{◌≡◌, ◌<◌};
 ghost use Rattle.bench_wall.specs.Arguments as D;
 
+use std::env::{Env, FillError};
+
 // What a byte adds as a digit; 10 or more for one that is no digit.
 fn digit(byte: u8) -> u64
     ensures { result ≡ D.digit byte }
@@ -33,10 +35,22 @@ fn number(text: &[u8]) -> u64
     n
 }
 
-pub fn argument(i: usize) -> u64
+// Whether the program was started with an argument i.
+pub fn has_argument(rt: &impl Env, i: usize) -> bool {
+    let mut text = [0u8; 1];
+    match rt.arg(i, &mut text) {
+        Err(FillError::NotPresent) => false,
+        _ => true,
+    }
+}
+
+// The number that argument i names; 0 for one that is missing, or that is longer than 4,096 bytes.
+pub fn argument(rt: &impl Env, i: usize) -> u64
     ensures { result < 1000000000 }
 {
-    let mut text = io::buffer();
-    let length = os::arg(i, &mut text);
-    number(&text[..length])
+    let mut text = [0u8; 4096];
+    match rt.arg(i, &mut text) {
+        Ok(length) => number(&text[..length]),
+        Err(_) => 0,
+    }
 }

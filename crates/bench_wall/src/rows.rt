@@ -1,14 +1,12 @@
 // What a timed program prints.
-use libc::STDOUT_FILENO;
+use std::io;
 
-pub fn write_checksum(checksum: u32) {
-    io::print_decimal(STDOUT_FILENO, checksum as u64);
-    io::write_all(STDOUT_FILENO, b"\n");
+pub fn write_checksum(rt: &impl Print, checksum: u32) -> io::Result<()> {
+    println!(rt; "{checksum}")
 }
 
 // A row's number and its checksum.
-pub fn write_row(row: u8, checksum: u32) {
-    io::print_decimal(STDOUT_FILENO, row as u64);
-    io::write_all(STDOUT_FILENO, b" ");
-    write_checksum(checksum);
+pub fn write_row(rt: &impl Print, row: u8, checksum: u32) -> io::Result<()> {
+    print!(rt; "{row} ")?;
+    write_checksum(rt, checksum)
 }

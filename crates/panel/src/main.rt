@@ -7,7 +7,6 @@ mod print;
 mod wall;
 
 use call_list::run_list;
-use libc::STDOUT_FILENO;
 use models::body::moving;
 use models::door::door;
 use models::hip::hip;
@@ -17,6 +16,7 @@ use print::{print_body, print_joint};
 use records::body::{BodyState, IDENTITY_BODY_STATE};
 use records::joint::JointSim;
 use scene::{Scene, empty_scene};
+use std::io;
 use wall::print_walls;
 
 // Each joint in turn, three rounds: warm starts, solves with bias, solves without.
@@ -58,52 +58,51 @@ fn build() -> Scene {
 }
 
 // One line for what the run answers.
-fn print_answer(number: u32, place: u32, still: bool) {
-    io::write_all(STDOUT_FILENO, b"number ");
-    io::print_decimal(STDOUT_FILENO, number as u64);
-    io::write_all(STDOUT_FILENO, b", place ");
-    io::print_decimal(STDOUT_FILENO, place as u64);
+fn print_answer(rt: &impl Print, number: u32, place: u32, still: bool) -> io::Result<()> {
+    print!(rt; "number {number}, place {place}")?;
     if still {
-        io::write_all(STDOUT_FILENO, b", still\n");
+        println!(rt; ", still")
     } else {
-        io::write_all(STDOUT_FILENO, b", not still\n");
+        println!(rt; ", not still")
     }
 }
 
 // The first four bodies, a line for each.
-fn print_bodies(bodies: [BodyState; 32]) {
+fn print_bodies(rt: &impl Print, bodies: [BodyState; 32]) -> io::Result<()> {
     let mut k = 0usize;
     while k < 4 {
-        print_body(k, bodies[k]);
+        print_body(rt, k, bodies[k])?;
         k += 1;
     }
+    Ok(())
 }
 
 // The first four joints, a line for each.
-fn print_joints(joints: [JointSim; 32]) {
+fn print_joints(rt: &impl Print, joints: [JointSim; 32]) -> io::Result<()> {
     let mut k = 0usize;
     while k < 4 {
-        print_joint(k, joints[k]);
+        print_joint(rt, k, joints[k])?;
         k += 1;
     }
+    Ok(())
 }
 
-fn print_scene(scene: Scene) {
+fn print_scene(rt: &impl Print, scene: Scene) -> io::Result<()> {
     let joints = scene.joints;
     let bodies = scene.bodies;
-    print_bodies(bodies);
-    print_joints(joints);
+    print_bodies(rt, bodies)?;
+    print_joints(rt, joints)
 }
 
 // What a run of the list answers and leaves.
-pub fn print_run(scene: Scene, list: &[u8]) {
+pub fn print_run(rt: &impl Print, scene: Scene, list: &[u8]) -> io::Result<()> {
     let run = run_list(scene, list);
-    print_answer(run.number, run.place, run.still);
-    print_scene(run.scene);
+    print_answer(rt, run.number, run.place, run.still)?;
+    print_scene(rt, run.scene)
 }
 
-fn main() {
-    io::write_all(STDOUT_FILENO, b"a door, a hip and a strut\n");
-    print_run(build(), &ROUNDS);
-    print_walls();
+fn main(rt: HostRuntime) -> io::Result<()> {
+    println!(rt; "a door, a hip and a strut")?;
+    print_run(&rt, build(), &ROUNDS)?;
+    print_walls(&rt)
 }

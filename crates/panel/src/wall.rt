@@ -1,11 +1,11 @@
 // A wall of four gates, each on a post of its own. No two share a body that moves, so they may be
 // worked in any order: both lists end in the same figures.
 use crate::{hinge, print_run};
-use libc::STDOUT_FILENO;
 use models::STEP;
 use models::body::moving;
 use records::body::{BodyState, IDENTITY_BODY_STATE};
 use scene::{Scene, empty_scene};
+use std::io;
 
 // A warm start and a solve with bias of each gate, from the first on and from the last on.
 const FROM_THE_FIRST: [u8; 16] = [0, 0, 0, 1, 1, 0, 1, 1, 2, 0, 2, 1, 3, 0, 3, 1];
@@ -44,13 +44,13 @@ fn wall() -> Scene {
     scene
 }
 
-fn print_wall(list: &[u8]) {
-    print_run(wall(), list);
+fn print_wall(rt: &impl Print, list: &[u8]) -> io::Result<()> {
+    print_run(rt, wall(), list)
 }
 
-pub fn print_walls() {
-    io::write_all(STDOUT_FILENO, b"a wall of gates, from the first on\n");
-    print_wall(&FROM_THE_FIRST);
-    io::write_all(STDOUT_FILENO, b"the same wall, from the last on\n");
-    print_wall(&FROM_THE_LAST);
+pub fn print_walls(rt: &impl Print) -> io::Result<()> {
+    println!(rt; "a wall of gates, from the first on")?;
+    print_wall(rt, &FROM_THE_FIRST)?;
+    println!(rt; "the same wall, from the last on")?;
+    print_wall(rt, &FROM_THE_LAST)
 }
