@@ -5,6 +5,7 @@ ghost use Rattle.bench_wall.specs.Arguments as D;
 use std::env::{Env, FillError};
 
 // What a byte adds as a digit; 10 or more for one that is no digit.
+#[tactic(auto, unfolding(crate::specs::Arguments::digit))]
 fn digit(byte: u8) -> u64
     ensures { result ≡ D.digit byte }
 {
@@ -16,6 +17,7 @@ fn digit(byte: u8) -> u64
 
 // The number that a text of digits names; 0 for any other text, and for a number of more than nine
 // digits.
+#[tactic(auto, unfolding(crate::specs::Arguments::number))]
 fn number(text: &[u8]) -> u64
     ensures { result ≡ D.number text.now }
 {

@@ -10,6 +10,7 @@ use records::joint::{JointSim, JointUnion, RevoluteJoint, SphericalJoint, WeldJo
 // A checksum is below this prime.
 const PRIME: u64 = 4294967291;
 
+#[tactic(auto, unfolding(crate::specs::Sum::add_word))]
 pub fn add_word(sum: u32, word: u32) -> u32
     ensures { result ≡ D.add_word sum word }
 {
@@ -18,6 +19,7 @@ pub fn add_word(sum: u32, word: u32) -> u32
 }
 
 // The checksum with one more float.
+#[tactic(auto, unfolding(crate::specs::Sum::add_float))]
 pub fn add_float(sum: u32, x: f32) -> u32
     ensures { result ≡ D.add_float sum x }
 {
@@ -27,12 +29,14 @@ pub fn add_float(sum: u32, x: f32) -> u32
     add_word(sum, f32::to_bits(x))
 }
 
+#[tactic(auto, unfolding(crate::specs::Sum::add_vec3))]
 pub fn add_vec3(sum: u32, v: Vec3) -> u32
     ensures { result ≡ D.add_vec3 sum v }
 {
     add_float(add_float(add_float(sum, v.x), v.y), v.z)
 }
 
+#[tactic(auto, unfolding(crate::specs::Sum::add_revolute))]
 fn add_revolute(sum: u32, j: RevoluteJoint) -> u32
     ensures { result ≡ D.add_revolute sum j }
 {
@@ -42,6 +46,7 @@ fn add_revolute(sum: u32, j: RevoluteJoint) -> u32
     add_float(add_float(s, j.lower_impulse), j.upper_impulse)
 }
 
+#[tactic(auto, unfolding(crate::specs::Sum::add_spherical))]
 fn add_spherical(sum: u32, j: SphericalJoint) -> u32
     ensures { result ≡ D.add_spherical sum j }
 {
@@ -51,6 +56,7 @@ fn add_spherical(sum: u32, j: SphericalJoint) -> u32
     add_float(s, j.swing_impulse)
 }
 
+#[tactic(auto, unfolding(crate::specs::Sum::add_weld))]
 fn add_weld(sum: u32, j: WeldJoint) -> u32
     ensures { result ≡ D.add_weld sum j }
 {
@@ -69,6 +75,7 @@ fn add_impulses(sum: u32, union_: JointUnion) -> u32
     }
 }
 
+#[tactic(auto, unfolding(crate::specs::Sum::add_velocities))]
 fn add_velocities(sum: u32, state: BodyState) -> u32
     ensures { result ≡ D.add_velocities sum state }
 {
@@ -76,6 +83,7 @@ fn add_velocities(sum: u32, state: BodyState) -> u32
 }
 
 // The checksum with one more gate: what its joint and its body are left with.
+#[tactic(auto, unfolding(crate::specs::Sum::add_gate))]
 pub fn add_gate(sum: u32, joint: JointSim, state: BodyState) -> u32
     ensures { result ≡ D.add_gate sum joint state }
 {

@@ -13,6 +13,7 @@ use records::joint::JointSim;
 use scene::Scene;
 
 // 0 is the door's joint, 1 the hip's and 2 the strut's; any other kind takes them in turn.
+#[tactic(auto, unfolding(crate::specs::Wall::gate_case))]
 fn gate_case(kind: u8, k: u8) -> u8
     ensures { result ≡ D.gate_case kind k }
 {
@@ -22,6 +23,7 @@ fn gate_case(kind: u8, k: u8) -> u8
     k % 3
 }
 
+#[tactic(auto, unfolding(crate::specs::Wall::model_of))]
 fn model_of(kind: u8, k: u8) -> Model
     ensures { result ≡ D.model_of kind k }
 {
@@ -36,6 +38,7 @@ fn model_of(kind: u8, k: u8) -> Model
 }
 
 // Gate k's body; gate 0 stands at the origin.
+#[tactic(auto, unfolding(crate::specs::Wall::gate_body))]
 fn gate_body(k: u8) -> BodyRecord
     ensures { result ≡ D.gate_body k }
 {
@@ -43,6 +46,7 @@ fn gate_body(k: u8) -> BodyRecord
 }
 
 // What gate k hangs on.
+#[tactic(auto, unfolding(crate::specs::Wall::body_before))]
 pub fn body_before(k: u8) -> BodyRecord
     ensures { result ≡ D.body_before k }
 {
@@ -53,6 +57,7 @@ pub fn body_before(k: u8) -> BodyRecord
 }
 
 // Gate k before prepare.
+#[tactic(auto, unfolding(crate::specs::Wall::gate))]
 fn gate(kind: u8, k: u8) -> Model
     ensures { result ≡ D.gate kind k }
 {
@@ -62,12 +67,14 @@ fn gate(kind: u8, k: u8) -> Model
     gate
 }
 
+#[tactic(auto, unfolding(crate::specs::Wall::prepared_joint))]
 fn prepared_joint(kind: u8, k: u8) -> JointSim
     ensures { result ≡ D.prepared_joint kind k }
 {
     prepare(gate(kind, k), STEP).joint
 }
 
+#[tactic(auto, unfolding(crate::specs::Wall::unprepared_joint))]
 fn unprepared_joint(kind: u8, k: u8) -> JointSim
     ensures { result ≡ D.unprepared_joint kind k }
 {
@@ -75,6 +82,7 @@ fn unprepared_joint(kind: u8, k: u8) -> JointSim
     gate.joint
 }
 
+#[tactic(auto, unfolding(crate::specs::Wall::joint_of))]
 fn joint_of(kind: u8, k: u8, is_prepared: bool) -> JointSim
     ensures { result ≡ D.joint_of kind k is_prepared }
 {
@@ -84,6 +92,7 @@ fn joint_of(kind: u8, k: u8, is_prepared: bool) -> JointSim
     unprepared_joint(kind, k)
 }
 
+#[tactic(auto, unfolding(crate::specs::Wall::joints_of))]
 fn joints_of(kind: u8, is_prepared: bool) -> [JointSim; 32]
     ensures { result ≡ D.joints_of kind is_prepared }
 {
@@ -97,6 +106,7 @@ fn joints_of(kind: u8, is_prepared: bool) -> [JointSim; 32]
 }
 
 // Each gate moves and turns a little more than the one before it.
+#[tactic(auto, unfolding(crate::specs::Wall::gate_state))]
 fn gate_state(k: u8) -> BodyState
     ensures { result ≡ D.gate_state k }
 {
@@ -110,6 +120,7 @@ fn gate_state(k: u8) -> BodyState
     state
 }
 
+#[tactic(auto, unfolding(crate::specs::Wall::gate_states))]
 fn gate_states() -> [BodyState; 32]
     ensures { result ≡ D.gate_states }
 {
@@ -122,6 +133,7 @@ fn gate_states() -> [BodyState; 32]
     states
 }
 
+#[tactic(auto, unfolding(crate::specs::Wall::wall_of))]
 fn wall_of(kind: u8, is_prepared: bool) -> Scene
     ensures { result ≡ D.wall_of kind is_prepared }
 {
@@ -135,12 +147,14 @@ fn wall_of(kind: u8, is_prepared: bool) -> Scene
 }
 
 // The wall with its joints before prepare.
+#[tactic(auto, unfolding(crate::specs::Wall::unprepared_wall))]
 pub fn unprepared_wall(kind: u8) -> Scene
     ensures { result ≡ D.unprepared_wall kind }
 {
     wall_of(kind, false)
 }
 
+#[tactic(auto, unfolding(crate::specs::Wall::wall))]
 pub fn wall(kind: u8) -> Scene
     ensures { result ≡ D.wall kind }
 {
