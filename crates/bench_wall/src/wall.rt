@@ -67,7 +67,6 @@ fn gate(kind: u8, k: u8) -> Model
     gate
 }
 
-#[tactic(auto, unfolding(crate::specs::Wall::prepared_joint))]
 fn prepared_joint(kind: u8, k: u8) -> JointSim
     ensures { result ≡ D.prepared_joint kind k }
 {
@@ -92,7 +91,6 @@ fn joint_of(kind: u8, k: u8, is_prepared: bool) -> JointSim
     unprepared_joint(kind, k)
 }
 
-#[tactic(auto, unfolding(crate::specs::Wall::joints_of))]
 fn joints_of(kind: u8, is_prepared: bool) -> [JointSim; 32]
     ensures { result ≡ D.joints_of kind is_prepared }
 {
@@ -106,7 +104,6 @@ fn joints_of(kind: u8, is_prepared: bool) -> [JointSim; 32]
 }
 
 // Each gate moves and turns a little more than the one before it.
-#[tactic(auto, unfolding(crate::specs::Wall::gate_state))]
 fn gate_state(k: u8) -> BodyState
     ensures { result ≡ D.gate_state k }
 {
@@ -133,7 +130,6 @@ fn gate_states() -> [BodyState; 32]
     states
 }
 
-#[tactic(auto, unfolding(crate::specs::Wall::wall_of))]
 fn wall_of(kind: u8, is_prepared: bool) -> Scene
     ensures { result ≡ D.wall_of kind is_prepared }
 {
