@@ -9,7 +9,6 @@ use Rattle.solver.specs.declared.Softness.{Softness}
 use Rattle.solver.specs.Solver.{no_softness}
 use Rattle.records.specs.declared.joint.JointBase.{JointBase}
 use Rattle.records.specs.declared.joint.JointType.{JointType}
-use Rattle.records.specs.declared.joint.JointType.TheVariants as JointType
 use Rattle.records.specs.Body.{null_index}
 
 -- what no stage writes

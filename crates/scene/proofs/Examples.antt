@@ -11,7 +11,7 @@ use lib.Ieee as Ieee
 use lib.IntN.{pos}
 use lib.ListN.{get_or, replicate}
 use borrow.Author.Tests.{eqb-true}
-use Rattle.math_functions.specs.Float.{eq, two}
+use Rattle.math_functions.specs.Float.{two}
 use Rattle.math_functions.specs.Scalar as Scalar
 use Rattle.math_functions.specs.Vector as Vector
 use Rattle.math_functions.specs.Quat as Quat
