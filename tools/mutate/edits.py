@@ -226,7 +226,8 @@ class Uses:
         if node.kind in ("path", "field") and place_of(node):  # a field of a call's answer is read from no place
             self.reads.add(place_of(node))
         self.calls |= node.kind == "call" and getattr(node.callee, "known", False)
-        self.jumps |= {node.word} if node.kind == "jump" else set()
+        self.jumps |= {node.word} if node.kind == "jump" else {"return"} if node.kind == "try" else set()
+        self.stays |= node.kind == "macro"
         lent = node.kind == "unary" and node.op in ("&", "&mut")
         self.stays |= lent or node.kind == "path" and (node.type or "").startswith("&mut")
         self.all(c for c in node.children() if c is not node.parts.get("callee") and c is not node.parts.get("pattern"))

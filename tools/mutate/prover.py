@@ -14,12 +14,14 @@ import typed
 PARTS = ("src", "specs", "proofs")
 # a run of rt that takes longer leaves its edit undecided
 SECONDS = 3600
-# an error in a proof file, or in a proof that the toolchain makes by itself, with what follows it up to the next one
+# an error in a proof file, or a goal that has no answer, with what follows it up to the next one
 ERROR = re.compile(
     r"^(?:(?=\S+\.antt:\d+:\d+: error)|note: (?=\S+\.rt:\d+:\d+: it is not proved))(\S+):(\d+):\d+: (.*?)"
-    r"(?=^\S+:\d+:\d+: |^note: |^fn |^struct |^logic=|\Z)",
+    r"(?=^\S+:\d+:\d+: |^(?:note|help|rt): |^(?:fn|struct|enum|logic|statements|library|crate) |^logic=|\Z)",
     re.M | re.S,
 )
+# a library below, of which rt says that it is not proved or does not compile
+BELOW = re.compile(r"^rt: the library (\w+) did not build", re.M)
 # a fact that no longer holds, as the prover says it
 FACT = re.compile(
     r"no occurrence of the path's|give a proof of that|`omega`|`search`|the two (?:types|sides)|expected type|does not follow|is not proved"
@@ -98,32 +100,21 @@ def write_text(path, text):
 
 
 class Scratch:
-    """the copy: crates/ and crates.txt of the library crates, target/ as the repository has it, and kept/, what an edit is undone from"""
+    """the copy: crates.txt and crates/ of the library crates, with what rt makes in crates/NAME/out/; and kept/NAME, the out/ of each crate as
+    it stands, which an edit's check is undone from"""
 
     def __init__(self, root, folder=None):
         self.own = folder is None
-        self.folder = folder or tempfile.mkdtemp(prefix="mutate-")
+        self.folder = os.path.abspath(folder) if folder else tempfile.mkdtemp(prefix="mutate-")
         self.crates = typed.libraries(root)
         self.stand = {}
         for crate in self.crates:
-            self.copy_crate(root, crate)
-        shutil.copy2(os.path.join(root, "crates.txt"), self.path("crates.txt"))
+            for part in PARTS:
+                mirror(os.path.join(root, "crates", crate, part), self.path("crates", crate, part))
+        write_text(self.path("crates.txt"), typed.lines_of(root, self.crates))
 
     def path(self, *words):
         return os.path.join(self.folder, *words)
-
-    def copy_crate(self, root, crate):
-        for part in PARTS:
-            mirror(os.path.join(root, "crates", crate, part), self.path("crates", crate, part))
-        os.makedirs(self.path("target", "stamp"), exist_ok=True)
-        theirs, ours = os.path.join(root, "target", "stamp", crate), self.path("target", "stamp", crate)
-        stamp = read_text(theirs)
-        if stamp is None or stamp == read_text(ours):
-            return
-        for part in (f"rlib/{crate}.rlib", f"inc/{crate}"):
-            mirror(os.path.join(root, "target", part), self.path("target", part))
-        if read_text(theirs) == stamp:
-            write_text(ours, stamp)
 
     def close(self):
         if self.own:
@@ -131,12 +122,14 @@ class Scratch:
 
     # ---- the toolchain
 
-    def rt(self, *words):
-        """the status and the text of one run of rt; the status is None where it takes too long"""
-        env = dict(os.environ, RT_CUT="0")
-        env.setdefault("RT_JOBS", "1")
+    def check(self, crate):
+        """the status and the text of one rt check of a crate; the status is None where it takes too long"""
         run = subprocess.Popen(
-            ["rt", *words], cwd=self.folder, env=env, stdout=subprocess.PIPE, stderr=subprocess.STDOUT, start_new_session=True
+            ["rt", "check", "--jobs", os.environ.get("RT_JOBS", "1")],
+            cwd=self.path("crates", crate),
+            stdout=subprocess.PIPE,
+            stderr=subprocess.STDOUT,
+            start_new_session=True,
         )
         try:
             out, _ = run.communicate(timeout=SECONDS)
@@ -146,35 +139,28 @@ class Scratch:
         finally:
             end(run)
 
-    def ask(self, command, crate):
-        return outcome(*self.rt(command, crate), crate)
-
     # ---- before the edits, and after each
 
     def warm(self, crate):
-        """proves a crate as it stands, fills its incremental folder, and keeps both"""
-        for command in ("check", "dev"):
-            status, text = self.rt(command, crate)
-            if status != 0:
-                raise Unready(f"{crate} is not proved as it stands: rt {command} ended with status {status}\n{text[-2000:]}")
-        mirror(self.path("target", "inc", crate), self.path("kept", "inc", crate))
+        """proves a crate as it stands, and keeps what rt made"""
+        status, text = self.check(crate)
+        if status != 0:
+            raise Unready(f"{crate} is not proved as it stands: rt check ended with status {status}\n{text[-2000:]}")
         self.keep()
 
     def keep(self):
-        os.makedirs(self.path("kept", "stamp"), exist_ok=True)
-        for crate in (c for c in self.crates if os.path.exists(self.path("target", "stamp", c))):
-            mirror(self.path("target", "rlib", f"{crate}.rlib"), self.path("kept", "rlib", f"{crate}.rlib"))
-            shutil.copy2(self.path("target", "stamp", crate), self.path("kept", "stamp", crate))
+        """what rt made of each crate, before any edit"""
+        for crate in self.crates:
+            mirror(self.path("crates", crate, "out"), self.path("kept", crate))
 
-    def put_back(self):
-        for crate in os.listdir(self.path("kept", "stamp")):
-            mirror(self.path("kept", "rlib", f"{crate}.rlib"), self.path("target", "rlib", f"{crate}.rlib"))
-            shutil.copy2(self.path("kept", "stamp", crate), self.path("target", "stamp", crate))
+    def put_back(self, crates):
+        for crate in crates:
+            mirror(self.path("kept", crate), self.path("crates", crate, "out"))
 
     def standing(self, crates):
         """those of the crates that are proved as they stand, lower ones first"""
         for crate in (c for c in crates if c not in self.stand):
-            self.stand[crate] = self.rt("check", crate)[0] == 0
+            self.stand[crate] = self.check(crate)[0] == 0
             self.keep()
         return sorted((c for c in crates if self.stand[c]), key=self.depth)
 
@@ -191,35 +177,35 @@ class Scratch:
         above = self.standing(seen_by)
         began, busy = time.monotonic(), busy_seconds()
         write_text(path, text[: edit.start] + edit.new + text[edit.end :])
-        found = self.ask("dev", crate)
-        checked = found.verdict == "accepted"
-        if checked:
-            found = self.verdict(crate, above)
+        try:
+            found = self.verdict([crate, *above])
+        finally:
+            write_text(path, text)
+            os.utime(path, ns=(stat.st_atime_ns, stat.st_mtime_ns))
         found.seconds, found.busy = time.monotonic() - began, busy_seconds() - busy
-        write_text(path, text)
-        os.utime(path, ns=(stat.st_atime_ns, stat.st_mtime_ns))
-        mirror(self.path("kept", "inc", crate), self.path("target", "inc", crate))
-        if checked:
-            self.put_back()
+        self.put_back(self.crates if above else [crate])
         return found
 
-    def verdict(self, crate, above):
-        """the word of a whole check of the crate, and then of those above it"""
-        for one in [crate, *above]:
-            found = self.ask("check", one)
+    def verdict(self, crates):
+        """the word of a check of the crate, and then of those above it"""
+        found = None
+        for crate in crates:
+            found = outcome(*self.check(crate), crate)
             if found.verdict != "accepted":
-                return found
-        return Outcome("accepted", crate=crate)
+                break
+        return found
 
 
 def outcome(status, text, crate):
-    """what one run of rt says of the crate that it was run for"""
+    """what one rt check says of the crate that it was run for, or of one below it"""
     if status == 0:
         return Outcome("accepted", crate=crate)
+    below = BELOW.search(text)
+    crate = below.group(1) if below else crate
     if status == 1 and re.search(r"^logic=not-proved", text, re.M):
         first = first_error(text)
         message = first.group(3) if first else text[-600:]
-        return Outcome("refused", reason_of(message), where_of(first) + message, crate)
+        return Outcome("refused", reason_of(message), where_of(first, crate) + message, crate)
     if status == 1 and re.search(r"^\S+\.rt:\d+:\d+: error", text, re.M):
         return Outcome("not compiled", first=text[-600:], crate=crate)
     if status in (None, 1, 3):
@@ -230,12 +216,12 @@ def outcome(status, text, crate):
 def first_error(text):
     """the first error that is not only a consequence of another"""
     errors = list(ERROR.finditer(text))
-    own = [e for e in errors if "was not admitted" not in e.group(3)]
+    own = [e for e in errors if not re.search(r"was not admitted|was rejected, was not checked", e.group(3))]
     return next(iter(own + errors), None)
 
 
-def where_of(error):
-    return f"{error.group(1).partition('/crates/')[2]}:{error.group(2)}: " if error else ""
+def where_of(error, crate):
+    return f"crates/{crate}/{error.group(1).removeprefix('./')}:{error.group(2)}: " if error else ""
 
 
 def reason_of(message):

@@ -5,11 +5,11 @@ import re
 
 COMMENT = re.compile(r'b?"(?:\\.|[^"\\])*"|//[^\n]*')
 GHOST_USE = re.compile(r"\bghost\s+use\b[^;]*;")
-CLAUSE = re.compile(r"\b(?:requires|ensures|ghost)\b(?:[ \t]+\w+)?\s*\{")
+CLAUSE = re.compile(r"\b(?:(?:requires|ensures)\b\*?(?:[ \t]+\w+)?|ghost\b(?:[ \t]+\w+:?)?)\s*\{")
 TOKEN = re.compile(
     r"(?P<number>0x[0-9a-fA-F_]+(?:[iu](?:8|16|32|64|size))?|0b[01_]+(?:[iu](?:8|16|32|64|size))?"
     r"|\d[\d_]*(?:\.\d[\d_]*)?(?:[eE][+-]?\d+)?(?:f32|f64|[iu](?:8|16|32|64|size))?)"
-    r'|(?P<bytes>b"(?:\\.|[^"\\])*"|b\'(?:\\.|[^\'\\])+\')'
+    r'|(?P<bytes>b?"(?:\\.|[^"\\])*"|b\'(?:\\.|[^\'\\])+\')'
     r"|(?P<lifetime>'\w+)|(?P<word>[A-Za-z_]\w*)"
     r"|(?P<mark><<=|>>=|\.\.=|->|=>|::|\.\.|&&|\|\||==|!=|<=|>=|<<|>>|[-+*/%&|^]=|[-+*/%&|^!<>=.,;:(){}\[\]#@?])"
     r"|(?P<space>\s+)|(?P<other>.)"
@@ -140,7 +140,20 @@ class Types(Reader):
         if self.take("("):
             self.expect(")")
             return ("unit",)
-        return ("name", self.path())
+        if self.peek() in ("impl", "dyn"):
+            self.next()
+        words = self.path()
+        if self.peek() != "<":
+            return ("name", words)
+        start = self.here()
+        self.skip_angles()
+        return ("applied", words, (start, self.last()))
+
+    def skip_angles(self):
+        """what stands between `<` and the `>` that closes it"""
+        depth = 0
+        while depth or self.peek() == "<":
+            depth += {"<": 1, ">": -1, ">>": -2}.get(self.next(), 0)
 
     def path(self):
         """the words of a path; the lifetimes that a type is applied to are passed over"""
@@ -265,8 +278,23 @@ class Expressions(Patterns):
                 self.next()
                 args = self.many(")", self.expression)
                 value = Node("call", start, self.last(), callee=value, args=args)
+            elif self.take("?"):
+                value = Node("try", start, self.last(), value=value)
+            elif self.peek() == "!" and value.kind == "path" and self.peek(1) in ("(", "[", "{"):
+                self.next()
+                self.skip_brackets()
+                value = Node("macro", start, self.last())
             else:
                 return value
+
+    def skip_brackets(self):
+        """a macro's arguments: they are not read"""
+        depth = 0
+        while True:
+            kind, mark = self.kind(), self.next()
+            depth += 0 if kind == "bytes" else (mark in ("(", "[", "{")) - (mark in (")", "]", "}"))
+            if depth == 0:
+                return
 
     def member(self, base, start):
         place = self.here()

@@ -21,8 +21,14 @@ def listed_crates(root):
     for line in open(os.path.join(root, "crates.txt"), encoding="utf-8"):
         name, colon, deps = line.split("#")[0].partition(":")
         if colon:
-            found[name.strip()] = deps.split()
+            found[name.split()[0]] = deps.split()
     return found
+
+
+def lines_of(root, crates):
+    """the lines of crates.txt of some crates"""
+    with open(os.path.join(root, "crates.txt"), encoding="utf-8") as f:
+        return "".join(line for line in f if (line.partition(":")[0].split() or [""])[0] in crates)
 
 
 def libraries(root):
@@ -97,6 +103,8 @@ class Names:
             return f"[{self.type(file, t[1])}; {file.text[t[2][0] : t[2][1]]}]"
         if t[0] == "unit":
             return "()"
+        if t[0] == "applied":
+            return self.named(file, t[1]) + file.text[t[2][0] : t[2][1]]
         inner = self.type(file, t[1])
         return {"slice": f"[{inner}]", "ref": f"&{inner}", "mut": f"&mut {inner}"}[t[0]]
 
@@ -184,6 +192,13 @@ class Typer:
 
     def type_bytes(self, node, wanted):
         return "u8" if node.text.startswith("b'") else None
+
+    def type_macro(self, node, wanted):
+        return None
+
+    def type_try(self, node, wanted):
+        self.give(node.value)
+        return None
 
     def type_unit(self, node, wanted):
         return "()"
