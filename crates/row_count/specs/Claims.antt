@@ -1,5 +1,5 @@
 -- What holds of the rows that a solve of a joint works, in the words of document 01 and of C-19. Statements only: each is proved in proofs/Counted.antt, under
--- the same name in small letters. That a solve reports this number is stated in the crate `joint`. Assumes nothing.
+-- the same name in small letters. No solve reports this number yet. Assumes nothing.
 use Rattle.std.specs.Prelude.{◌≡◌, Bool, true, false, cond, ℕ, ◌+◌, ◌≤◌}
 use Rattle.records.specs.declared.joint.JointSim.{JointSim}
 use Rattle.records.specs.declared.joint.JointUnion.TheVariants.{Revolute, Spherical, Weld, Other}

@@ -1,5 +1,5 @@
 -- Document 01's rows of a spherical solve, in order (spring, motor, lower twist, upper twist, cone, point): by which test each is worked, and how many are
--- worked. The solve's definition works its rows by these tests. Definitions only. Assumes nothing.
+-- worked. The solve's definition makes the same tests, but does not cite these yet. Definitions only. Assumes nothing.
 use Rattle.std.specs.Prelude.{Bool, ℕ}
 use Rattle.records.specs.declared.joint.SphericalJoint.{SphericalJoint}
 use Rattle.constraint.specs.Angular.{is_worked}

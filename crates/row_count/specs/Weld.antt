@@ -1,5 +1,5 @@
--- Document 01's rows of a weld solve, in order (angular, point): by which test the angular row is worked, and how many are worked. The solve's definition works
--- its angular row by this test. Definitions only. Assumes nothing.
+-- Document 01's rows of a weld solve, in order (angular, point): by which test the angular row is worked, and how many are worked. The solve's definition makes
+-- the same test, but does not cite this one yet. Definitions only. Assumes nothing.
 use Rattle.std.specs.Prelude.{Bool, not, ℕ, ◌+◌}
 use Rattle.row_count.specs.Rows.{rows_if}
 
