@@ -1,13 +1,13 @@
 -- The claims of specs/Claims.antt on marks, proved, each under its statement's name in small letters. Assumes nothing.
-use Rattle.std.specs.Prelude.{◌≡◌, Bool, true, false, cond}
+use Rattle.std.specs.Prelude.{◌≡◌, Bool, true, false, cond, Option, Some, None}
 use mathlib.Core.Path.{refl, ap, ◌∙◌}
 use lib.Ieee as Ieee
 use lib.Ieee.{Float, nan}
 use Rattle.math_functions.specs.declared.mark.Mark.{Mark}
-use Rattle.math_functions.specs.declared.mark.Mark.TheVariants.{None, Solved, FellBack}
+use Rattle.math_functions.specs.declared.mark.Mark.TheVariants.{Solved, FellBack}
 use Rattle.math_functions.specs.Float.{gt, threshold}
 use Rattle.math_functions.specs.Scalar.{abs_float}
-use Rattle.math_functions.specs.Mark.{Says, mark_of, no_mark}
+use Rattle.math_functions.specs.Mark.{Says, leaf_mark, mark_of, no_mark}
 use Rattle.math_functions.specs.Matrix.{det, det2, passes2, passes3, invert_matrix, invert_matrix_mark, solve2, solve2_mark, solve3, solve3_mark}
 use Rattle.math_functions.specs.Claims.{MarkSaid, MarksSay, FellBackToZeros, FellBackAt}
 use Rattle.math_functions.proofs.Facts.{negative_not_above_threshold, threshold_not_above, nan_not_above_threshold}
@@ -19,16 +19,16 @@ said false passes = refl
 said true true = (refl, refl)
 said true false = (refl, refl)
 
-only : (worked passes : Bool) (mark : Mark) → Says mark worked passes → mark ≡ mark_of worked passes
+only : (worked passes : Bool) (mark : Option Mark) → Says mark worked passes → mark ≡ mark_of worked passes
 only worked passes None p = rw p
-only worked passes Solved p = rw (p.0, p.1)
-only worked passes FellBack p = rw (p.0, p.1)
+only worked passes (Some Solved) p = rw (p.0, p.1)
+only worked passes (Some FellBack) p = rw (p.0, p.1)
 
 pub mark_said : MarkSaid
 mark_said = record { said = said; only = only }
 
 -- a row or a mass has its leaf's mark where it is worked, and else none
-pub worked_says : (worked passes : Bool) (mark : Mark) → Says mark true passes → Says (cond worked mark no_mark) worked passes
+pub worked_says : (worked passes : Bool) (mark : Option Mark) → Says mark true passes → Says (cond worked mark no_mark) worked passes
 worked_says true passes mark says = says
 worked_says false passes mark says = refl
 
@@ -40,7 +40,7 @@ marks_say = record { solve2 = λ m. said true (passes2 m); solve3 = λ m. said t
 
 -- ---- where the test fails
 
-back : (passes : Bool) → passes ≡ false → mark_of true passes ≡ FellBack
+back : (passes : Bool) → passes ≡ false → leaf_mark passes ≡ FellBack
 back passes e = rw e
 
 size_of_nan : abs_float nan ≡ nan
@@ -69,7 +69,7 @@ fell_back_at =
 -- ---- what a leaf that fell back gives
 
 -- a leaf that fell back has not passed
-failed : (passes : Bool) → mark_of true passes ≡ FellBack → passes ≡ false
+failed : (passes : Bool) → leaf_mark passes ≡ FellBack → passes ≡ false
 failed true e = cc
 failed false e = refl
 

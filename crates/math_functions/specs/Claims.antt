@@ -1,6 +1,6 @@
 -- What holds of a mark, and of the marks of `solve2`, `solve3` and `invert_matrix`, in C-15's words. Statements only: each is proved in proofs/Marks.antt,
 -- under the same name in small letters. Assumes nothing.
-use Rattle.std.specs.Prelude.{◌≡◌, Bool, true}
+use Rattle.std.specs.Prelude.{◌≡◌, Bool, true, Option, Some}
 use Rattle.std.specs.Float.{nan}
 use Rattle.math_functions.specs.declared.mark.Mark.{Mark}
 use Rattle.math_functions.specs.declared.mark.Mark.TheVariants.{FellBack}
@@ -17,13 +17,13 @@ use Rattle.math_functions.specs.Matrix.{det, det2, passes2, passes3, invert_matr
 -- The mark that is defined says what the paper says of a row or a mass, and no other mark does.
 pub record MarkSaid : Type 0 where
   pub said : (worked passes : Bool) → Says (mark_of worked passes) worked passes
-  pub only : (worked passes : Bool) (mark : Mark) → Says mark worked passes → mark ≡ mark_of worked passes
+  pub only : (worked passes : Bool) (mark : Option Mark) → Says mark worked passes → mark ≡ mark_of worked passes
 
 -- A leaf that is worked is marked, solved or fell back, by its test.
 pub record MarksSay : Type 0 where
-  pub solve2 : (m : Mat2) → Says (solve2_mark m) true (passes2 m)
-  pub solve3 : (m : Matrix3) → Says (solve3_mark m) true (passes3 m)
-  pub inverse : (m : Matrix3) → Says (invert_matrix_mark m) true (passes3 m)
+  pub solve2 : (m : Mat2) → Says (Some (solve2_mark m)) true (passes2 m)
+  pub solve3 : (m : Matrix3) → Says (Some (solve3_mark m)) true (passes3 m)
+  pub inverse : (m : Matrix3) → Says (Some (invert_matrix_mark m)) true (passes3 m)
 
 -- 'whether they fell back to zeros': where a leaf fell back its value is zeros, whatever the right-hand side.
 pub record FellBackToZeros : Type 0 where

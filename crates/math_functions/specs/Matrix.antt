@@ -1,32 +1,16 @@
 -- math_functions/matrix.rs: 3x3 matrices by columns, and the 2x2 matrix of the revolute joint. Definitions only. Assumes nothing.
-use Rattle.std.specs.Prelude.{Bool, true, cond}
+use Rattle.std.specs.Prelude.{Bool, cond}
 use Rattle.std.specs.Prelude.{Float}
 use Rattle.math_functions.specs.declared.types.Vec2.{Vec2}
 use Rattle.math_functions.specs.declared.types.Vec3.{Vec3}
 use Rattle.math_functions.specs.declared.types.Matrix3.{Matrix3}
 use Rattle.math_functions.specs.declared.mark.Mark.{Mark}
 use Rattle.math_functions.specs.declared.matrix.Mat2.{Mat2}
-use Rattle.math_functions.specs.declared.matrix.MarkedVec2.{MarkedVec2}
-use Rattle.math_functions.specs.declared.matrix.MarkedVec3.{MarkedVec3}
-use Rattle.math_functions.specs.declared.matrix.MarkedMatrix3.{MarkedMatrix3}
 use Rattle.math_functions.specs.Float.{◌⊕◌, ◌⊖◌, ◌⊗◌, ◌⊘◌, neg, gt, zero, one, threshold}
 use Rattle.math_functions.specs.Types.{vec2, vec3, matrix3, vec2_zero, vec3_zero, mat3_zero}
 use Rattle.math_functions.specs.Scalar.{abs_float}
 use Rattle.math_functions.specs.Vector.{dot, mul_sv, cross}
-use Rattle.math_functions.specs.Mark.{mark_of}
-
--- ==== C-15: what a leaf answers, its value and its mark
-
-abbrev pub marked_vec2 : Vec2 → Mark → MarkedVec2
-marked_vec2 value mark = record { value = value; mark = mark }
-
-abbrev pub marked_vec3 : Vec3 → Mark → MarkedVec3
-marked_vec3 value mark = record { value = value; mark = mark }
-
-abbrev pub marked_matrix3 : Matrix3 → Mark → MarkedMatrix3
-marked_matrix3 value mark = record { value = value; mark = mark }
-
--- ==== The leaves
+use Rattle.math_functions.specs.Mark.{leaf_mark}
 
 unfoldable pub det : Matrix3 → Float
 det m = dot m.cx (cross m.cy m.cz)
@@ -75,7 +59,7 @@ abbrev pub passes3 : Matrix3 → Bool
 passes3 m = gt (abs_float (det m)) threshold
 
 unfoldable pub invert_matrix_mark : Matrix3 → Mark
-invert_matrix_mark m = mark_of true (passes3 m)
+invert_matrix_mark m = leaf_mark (passes3 m)
 
 -- document 01's `solve3`: zeros unless |det| > 1000 × 2 ^ -126
 unfoldable pub solve3 : Matrix3 → Vec3 → Vec3
@@ -86,7 +70,7 @@ solve3 m a =
     cond (gt (abs_float d) threshold) (vec3 (inv_det ⊗ dot s.cx a) (inv_det ⊗ dot s.cy a) (inv_det ⊗ dot s.cz a)) vec3_zero
 
 unfoldable pub solve3_mark : Matrix3 → Mark
-solve3_mark m = mark_of true (passes3 m)
+solve3_mark m = leaf_mark (passes3 m)
 
 unfoldable pub det2 : Mat2 → Float
 det2 m = m.cx.x ⊗ m.cy.y ⊖ m.cx.y ⊗ m.cy.x
@@ -105,7 +89,7 @@ abbrev pub passes2 : Mat2 → Bool
 passes2 m = gt (det2 m) threshold
 
 unfoldable pub solve2_mark : Mat2 → Mark
-solve2_mark m = mark_of true (passes2 m)
+solve2_mark m = leaf_mark (passes2 m)
 
 unfoldable pub skew : Vec3 → Matrix3
 skew v = matrix3 (vec3 zero v.z (neg v.y)) (vec3 (neg v.z) zero v.x) (vec3 v.y (neg v.x) zero)

@@ -1,10 +1,11 @@
 // Matrix3 operations and the 2x2 matrix of the revolute joint.
 ghost use Rattle.std.specs.Prelude.{◌≡◌};
+ghost use Rattle.math_functions.specs.Mark.{marked};
 ghost use Rattle.math_functions.specs.Matrix as D;
 
-use crate::mark::Mark;
+use crate::mark::{Mark, Marked};
 use crate::scalar::abs_float;
-use crate::types::{MAT3_ZERO, MIN_POSITIVE, Matrix3, VEC3_ZERO, Vec2, Vec3};
+use crate::types::{MAT3_ZERO, Matrix3, VEC2_ZERO, VEC3_ZERO, Vec2, Vec3};
 use crate::vector::{add, cross, dot, neg};
 
 // A 2x2 matrix, stored as columns.
@@ -12,25 +13,6 @@ use crate::vector::{add, cross, dot, neg};
 pub struct Mat2 {
     pub cx: Vec2,
     pub cy: Vec2,
-}
-
-// What a leaf that may fall back to zeros answers: its value, and whether it was solved or fell back.
-#[derive(Clone, Copy)]
-pub struct MarkedVec2 {
-    pub value: Vec2,
-    pub mark: Mark,
-}
-
-#[derive(Clone, Copy)]
-pub struct MarkedVec3 {
-    pub value: Vec3,
-    pub mark: Mark,
-}
-
-#[derive(Clone, Copy)]
-pub struct MarkedMatrix3 {
-    pub value: Matrix3,
-    pub mark: Mark,
 }
 
 // Compute the determinant of a 3-by-3 matrix.
@@ -91,13 +73,13 @@ pub fn mul_mm(a: Matrix3, b: Matrix3) -> Matrix3
 
 // General matrix inverse. Row by row it is the cross products of the columns over the determinant,
 // so each entry is computed at its own place: nothing is turned over afterwards.
-pub fn invert_matrix(m: Matrix3) -> MarkedMatrix3
-    ensures { result ≡ D.marked_matrix3 (D.invert_matrix m) (D.invert_matrix_mark m) }
+pub fn invert_matrix(m: Matrix3) -> Marked<Matrix3>
+    ensures { result ≡ marked (D.invert_matrix m) (D.invert_matrix_mark m) }
 {
     let d = det(m);
-    if abs_float(d) > 1000.0 * MIN_POSITIVE {
+    if abs_float(d) > 1000.0 * f32::MIN_POSITIVE {
         let inv_det = 1.0 / d;
-        MarkedMatrix3 {
+        Marked {
             value: Matrix3 {
                 cx: Vec3 {
                     x: inv_det * (m.cy.y * m.cz.z - m.cy.z * m.cz.y),
@@ -118,7 +100,7 @@ pub fn invert_matrix(m: Matrix3) -> MarkedMatrix3
             mark: Mark::Solved,
         }
     } else {
-        MarkedMatrix3 {
+        Marked {
             value: MAT3_ZERO,
             mark: Mark::FellBack,
         }
@@ -127,11 +109,11 @@ pub fn invert_matrix(m: Matrix3) -> MarkedMatrix3
 
 // Solve a matrix equation: inv(m) * a
 #[tactic(auto, unfolding(crate::specs::Matrix::solve3, crate::specs::Matrix::solve3_mark))]
-pub fn solve3(m: Matrix3, a: Vec3) -> MarkedVec3
-    ensures { result ≡ D.marked_vec3 (D.solve3 m a) (D.solve3_mark m) }
+pub fn solve3(m: Matrix3, a: Vec3) -> Marked<Vec3>
+    ensures { result ≡ marked (D.solve3 m a) (D.solve3_mark m) }
 {
     let d = det(m);
-    if abs_float(d) > 1000.0 * MIN_POSITIVE {
+    if abs_float(d) > 1000.0 * f32::MIN_POSITIVE {
         let inv_det = 1.0 / d;
         let s = Matrix3 {
             cx: cross(m.cy, m.cz),
@@ -139,7 +121,7 @@ pub fn solve3(m: Matrix3, a: Vec3) -> MarkedVec3
             cz: cross(m.cx, m.cy),
         };
 
-        MarkedVec3 {
+        Marked {
             value: Vec3 {
                 x: inv_det * dot(s.cx, a),
                 y: inv_det * dot(s.cy, a),
@@ -148,7 +130,7 @@ pub fn solve3(m: Matrix3, a: Vec3) -> MarkedVec3
             mark: Mark::Solved,
         }
     } else {
-        MarkedVec3 {
+        Marked {
             value: VEC3_ZERO,
             mark: Mark::FellBack,
         }
@@ -166,13 +148,13 @@ pub fn det2(m: Mat2) -> f32
 // Solve A * x = b for a 2-by-2 matrix. Assumes positive semi-definite: a determinant below zero
 // gives zeros, as one that is too small does.
 #[tactic(auto, unfolding(crate::specs::Matrix::solve2, crate::specs::Matrix::solve2_mark))]
-pub fn solve2(m: Mat2, b: Vec2) -> MarkedVec2
-    ensures { result ≡ D.marked_vec2 (D.solve2 m b) (D.solve2_mark m) }
+pub fn solve2(m: Mat2, b: Vec2) -> Marked<Vec2>
+    ensures { result ≡ marked (D.solve2 m b) (D.solve2_mark m) }
 {
     let d = det2(m);
-    if d > 1000.0 * MIN_POSITIVE {
+    if d > 1000.0 * f32::MIN_POSITIVE {
         let inv_det = 1.0 / d;
-        MarkedVec2 {
+        Marked {
             value: Vec2 {
                 x: inv_det * m.cy.y * b.x - inv_det * m.cy.x * b.y,
                 y: -inv_det * m.cx.y * b.x + inv_det * m.cx.x * b.y,
@@ -180,8 +162,8 @@ pub fn solve2(m: Mat2, b: Vec2) -> MarkedVec2
             mark: Mark::Solved,
         }
     } else {
-        MarkedVec2 {
-            value: Vec2 { x: 0.0, y: 0.0 },
+        Marked {
+            value: VEC2_ZERO,
             mark: Mark::FellBack,
         }
     }

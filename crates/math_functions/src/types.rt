@@ -44,14 +44,12 @@ pub struct Matrix3 {
 
 pub const PI: f32 = 3.14159265358979323846264338327950288;
 
-// f32::MIN_POSITIVE, the smallest normal number.
-pub const MIN_POSITIVE: f32 = 1.17549435e-38;
-
-// A NaN, of which the pattern is left free. It is a function, since no constant can be a NaN.
+// A NaN, of which the pattern is left free. A clause knows the constant by a pattern; that it is the NaN
+// is said here once.
 pub fn nan() -> f32
     ensures { result ≡ Ieee.nan }
 {
-    0.0 / 0.0
+    f32::NAN
 }
 
 pub const VEC2_ZERO: Vec2 = Vec2 { x: 0.0, y: 0.0 };

@@ -2,7 +2,7 @@
 ghost use Rattle.std.specs.Prelude.{◌≡◌};
 ghost use Rattle.math_functions.specs.Vector as D;
 
-use crate::types::{MIN_POSITIVE, Vec3};
+use crate::types::{VEC3_ZERO, Vec3};
 use sqrt::sqrt;
 
 // Vector addition.
@@ -64,7 +64,7 @@ pub fn normalize(a: Vec3) -> Vec3
 {
     let length_squared = a.x * a.x + a.y * a.y + a.z * a.z;
 
-    if length_squared > 1000.0 * MIN_POSITIVE {
+    if length_squared > 1000.0 * f32::MIN_POSITIVE {
         let s = 1.0 / sqrt(length_squared);
         Vec3 {
             x: s * a.x,
@@ -72,11 +72,7 @@ pub fn normalize(a: Vec3) -> Vec3
             z: s * a.z,
         }
     } else {
-        Vec3 {
-            x: 0.0,
-            y: 0.0,
-            z: 0.0,
-        }
+        VEC3_ZERO
     }
 }
 

@@ -4,3 +4,4 @@ pub mod Revolute
 pub mod Spherical
 pub mod Weld
 pub mod Joint
+pub mod Refusal

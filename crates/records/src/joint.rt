@@ -14,7 +14,7 @@ use math_functions::types::{
 use solver::{NO_SOFTNESS, Softness};
 
 // Joint type enumeration.
-#[derive(Clone, Copy)]
+#[derive(Clone, Copy, PartialEq, Eq, Debug)]
 pub enum JointType {
     Parallel,
     Distance,
@@ -91,10 +91,12 @@ pub const DEFAULT_REVOLUTE_JOINT: RevoluteJoint = RevoluteJoint {
     enable_limit: false,
 };
 
-pub fn default_revolute_joint() -> RevoluteJoint
-    ensures { result ≡ R.default_revolute }
-{
-    DEFAULT_REVOLUTE_JOINT
+impl Default for RevoluteJoint {
+    ghost is_default = { λ j. j ≡ R.default_revolute };
+
+    fn default() -> RevoluteJoint {
+        DEFAULT_REVOLUTE_JOINT
+    }
 }
 
 #[derive(Clone, Copy)]
@@ -166,10 +168,12 @@ pub const DEFAULT_SPHERICAL_JOINT: SphericalJoint = SphericalJoint {
     enable_twist_limit: false,
 };
 
-pub fn default_spherical_joint() -> SphericalJoint
-    ensures { result ≡ S.default_spherical }
-{
-    DEFAULT_SPHERICAL_JOINT
+impl Default for SphericalJoint {
+    ghost is_default = { λ j. j ≡ S.default_spherical };
+
+    fn default() -> SphericalJoint {
+        DEFAULT_SPHERICAL_JOINT
+    }
 }
 
 #[derive(Clone, Copy)]
@@ -211,10 +215,12 @@ pub const DEFAULT_WELD_JOINT: WeldJoint = WeldJoint {
     angular_mass: MAT3_ZERO,
 };
 
-pub fn default_weld_joint() -> WeldJoint
-    ensures { result ≡ W.default_weld }
-{
-    DEFAULT_WELD_JOINT
+impl Default for WeldJoint {
+    ghost is_default = { λ j. j ≡ W.default_weld };
+
+    fn default() -> WeldJoint {
+        DEFAULT_WELD_JOINT
+    }
 }
 
 // The joint's kind with its record. The kinds that are not ported share one empty case.

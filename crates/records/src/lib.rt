@@ -4,6 +4,7 @@
 
 pub mod body;
 pub mod joint;
+pub mod refusal;
 
 // Used to indicate an unset or invalid index value.
 pub const NULL_INDEX: i32 = -1;
