@@ -14,8 +14,8 @@ use Rattle.records.specs.declared.joint.JointUnion.{JointUnion}
 use Rattle.records.specs.declared.joint.JointUnion.TheVariants.{Other}
 use Rattle.records.specs.declared.joint.JointSim.{JointSim}
 use Rattle.constraint.specs.declared.velocity.Velocities.{Velocities}
-use Rattle.constraint.specs.declared.answer.WarmStarted.{WarmStarted}
-use Rattle.constraint.specs.declared.answer.Solved.{Solved}
+use Rattle.constraint.specs.Answer.{WarmStartedAnswer}
+use Rattle.constraint.specs.Answer.{SolvedAnswer}
 use Rattle.constraint.specs.Velocity.{velocities_of}
 use Rattle.constraint.specs.Answer.{no_report}
 use Rattle.joint.specs.Stage.{Staged, staged, of_warm_start, of_solve, warm_start_as, warm_start_joint, solve_as, solve_joint, stage_joint}
@@ -58,14 +58,14 @@ module _ (js : List JointSim) (at : ℕ) (d : JointSim) (context : StepContext) 
   solve_stage f o = rw (f, ne_eqb stage 0 o)
 
   -- in the arm of a kind's warm start
-  pub worked_warm : (k : ℕ) (r : WarmStarted) → c ≡ k → k < 3 → r ≡ warm_start_of k j a b → next ≡ js → v ≡ r.velocities → ArmWorked js at its_stage next v
+  pub worked_warm : (k : ℕ) (r : WarmStartedAnswer) → c ≡ k → k < 3 → r ≡ warm_start_of k j a b → next ≡ js → v ≡ r.velocities → ArmWorked js at its_stage next v
   worked_warm k r f low g n m =
       let of = warm_code slot j.union_ stage k (sym coded ∙ f) low in
       unmoved (of_warm_start (warm_start_joint j a b)) (warm_stage of.0 of.2) (warm_start_joint_lem j a b) n
       (m ∙ ap (λ x. x.velocities) (g ∙ warm_start_of_lem k j a b of.1 low))
 
   -- in the arm of a kind's solve
-  pub worked_solve : (k : ℕ) (r : Solved) → c ≡ k + 3 → k < 3 → r ≡ solve_of k j context a b (eqb stage 1) → next ≡ set js at r.joint → v ≡ r.velocities
+  pub worked_solve : (k : ℕ) (r : SolvedAnswer) → c ≡ k + 3 → k < 3 → r ≡ solve_of k j context a b (eqb stage 1) → next ≡ set js at r.joint → v ≡ r.velocities
       → ArmWorked js at its_stage next v
   worked_solve k r f low g n m =
       let of = solve_code slot j.union_ stage k (sym coded ∙ f) low in

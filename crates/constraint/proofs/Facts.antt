@@ -2,7 +2,7 @@
 -- any kind. Assumes nothing.
 use mathlib.Core.Path.{◌≡◌, refl}
 use mathlib.Core.Bool.{Bool, true, false, cond, ◌||◌}
-use mathlib.Core.Option.{Option, none, some, Option-elim}
+use mathlib.Core.Option.{Option, none, some}
 use Prim.Native.Nat.{ℕ}
 use native.Mathlib.Omega.{arith}
 use lib.Ieee as Ieee
@@ -12,7 +12,7 @@ use Rattle.math_functions.specs.Float.{lt, gt, eq, zero}
 use Rattle.math_functions.specs.Scalar.{max_float}
 use Rattle.solver.specs.declared.Softness.{Softness}
 use Rattle.records.specs.declared.joint.JointUnion.{JointUnion}
-use Rattle.records.specs.Joint.{is_some}
+use Rattle.records.specs.Joint.{is_some, of_kind}
 use Rattle.constraint.specs.declared.velocity.Velocities.{Velocities}
 use Rattle.constraint.specs.declared.velocity.InvMasses.{InvMasses}
 use Rattle.constraint.specs.declared.soft.SoftBias.{SoftBias}
@@ -67,51 +67,46 @@ one_at_most = record { number_bound = omega arith; place_zero = refl }
 
 module _ {K A : Type 0} where
   -- what holds of the refusal and of every work
-  pub always : (P : A → Type 0) (found : Option K) (refusal : A) (work : K → A) → P refusal → ((k : K) → P (work k)) → P (Option-elim found refusal work)
-  unfolding Option-elim
+  pub always : (P : A → Type 0) (found : Option K) (refusal : A) (work : K → A) → P refusal → ((k : K) → P (work k)) → P (of_kind found refusal work)
   always P none refusal work p q = p
   always P (some k) refusal work p q = q k
 
   -- what a refusal and every work leave alike
   pub kept : {B : Type 0} (f : A → B) (b : B) (found : Option K) (refusal : A) (work : K → A) → f refusal ≡ b → ((k : K) → f (work k) ≡ b) → f
-      (Option-elim found refusal work) ≡ b
+      (of_kind found refusal work) ≡ b
   kept f b found refusal work p q = always (λ a. f a ≡ b) found refusal work p q
 
   pub numbered : (number : A → ℕ) (found : Option K) (refusal : A) (work : K → A) → number refusal ≡ 1 → ((k : K) → number (work k) ≡ 0) → number
-      (Option-elim found refusal work) ≡ cond (is_some found) 0 1
-  unfolding Option-elim
+      (of_kind found refusal work) ≡ cond (is_some found) 0 1
   numbered number none refusal work p q = p
   numbered number (some k) refusal work p q = q k
 
-  pub refused : (found : Option K) (refusal : A) (work : K → A) → is_some found ≡ false → Option-elim found refusal work ≡ refusal
-  unfolding Option-elim
+  pub refused : (found : Option K) (refusal : A) (work : K → A) → is_some found ≡ false → of_kind found refusal work ≡ refusal
   refused none refusal work e = refl
   refused (some k) refusal work e = cc
 
   -- a joint of the kind stays one, and no other becomes one
   pub case_kept : (union : A → JointUnion) (kind_of : JointUnion → Option K) (u : JointUnion) (refusal : A) (work : K → A) → union refusal ≡ u →
-      ((k : K) → is_some (kind_of (union (work k))) ≡ true) → is_some (kind_of (union (Option-elim (kind_of u) refusal work))) ≡ is_some (kind_of u)
-  unfolding Option-elim
+      ((k : K) → is_some (kind_of (union (work k))) ≡ true) → is_some (kind_of (union (of_kind (kind_of u) refusal work))) ≡ is_some (kind_of u)
   case_kept union kind_of u refusal work p q = go (kind_of u) refl
     where
-      go : (found : Option K) → kind_of u ≡ found → is_some (kind_of (union (Option-elim found refusal work))) ≡ is_some found
+      go : (found : Option K) → kind_of u ≡ found → is_some (kind_of (union (of_kind found refusal work))) ≡ is_some found
       go none e = rw (p, e)
       go (some k) e = q k
 
   -- what holds of every work holds where the number is 0
   pub accepted : (number : A → ℕ) (P : A → Type 0) (found : Option K) (refusal : A) (work : K → A)
-      → number refusal ≡ 1 → ((k : K) → P (work k)) → number (Option-elim found refusal work) ≡ 0 → P (Option-elim found refusal work)
+      → number refusal ≡ 1 → ((k : K) → P (work k)) → number (of_kind found refusal work) ≡ 0 → P (of_kind found refusal work)
   accepted number P found refusal work one q = always (λ a. number a ≡ 0 → P a) found refusal work (λ e. absurd (omega (arith, one, e))) (λ k e. q k)
 
   -- and there the joint was of the kind and still is, if every work leaves it so
   pub both_of_kind : (number : A → ℕ) (union : A → JointUnion) (kind_of : JointUnion → Option K) (P : K → K → Type 0) (u : JointUnion)
       (refusal : A) (work : K → A)
       → number refusal ≡ 1 → ((k : K) → (next : K) × (kind_of (union (work k)) ≡ some next) × P k next)
-      → number (Option-elim (kind_of u) refusal work) ≡ 0 → BothOfKind kind_of P u (union (Option-elim (kind_of u) refusal work))
-  unfolding Option-elim
+      → number (of_kind (kind_of u) refusal work) ≡ 0 → BothOfKind kind_of P u (union (of_kind (kind_of u) refusal work))
   both_of_kind number union kind_of P u refusal work one q = by (kind_of u) refl
     where
-      by : (found : Option K) → kind_of u ≡ found → number (Option-elim found refusal work) ≡ 0
-          → BothOfKind kind_of P u (union (Option-elim found refusal work))
+      by : (found : Option K) → kind_of u ≡ found → number (of_kind found refusal work) ≡ 0
+          → BothOfKind kind_of P u (union (of_kind found refusal work))
       by none e z = absurd (omega (arith, one, z))
       by (some k) e z = let r = q k in record { joint = k; next = r.0; was = e; became = r.1; holds = r.2 }

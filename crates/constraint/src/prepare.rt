@@ -4,7 +4,7 @@ ghost use Rattle.constraint.specs.Prepare as D;
 
 use math_functions::matrix::{add_mm, det, mul_mv};
 use math_functions::quat::{mul_quat, rotate_vector};
-use math_functions::types::{MIN_POSITIVE, Matrix3, Transform, Vec3};
+use math_functions::types::{Matrix3, Transform, Vec3};
 use math_functions::vector::{dot, sub};
 use records::body::BodyRecord;
 use records::joint::JointBase;
@@ -23,7 +23,7 @@ pub fn prepare_base(base: JointBase, body_a: BodyRecord, body_b: BodyRecord) -> 
     out.inv_mass_b = body_b.inv_mass;
     out.inv_i_a = i_a;
     out.inv_i_b = i_b;
-    let fixed_rotation = det(add_mm(i_a, i_b)) < 1000.0 * MIN_POSITIVE;
+    let fixed_rotation = det(add_mm(i_a, i_b)) < 1000.0 * f32::MIN_POSITIVE;
     out.fixed_rotation = fixed_rotation;
     out
 }

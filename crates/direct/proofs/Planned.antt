@@ -23,8 +23,8 @@ use Rattle.records.specs.declared.joint.JointUnion.{JointUnion}
 use Rattle.records.specs.declared.joint.JointUnion.TheVariants.{Revolute, Spherical, Weld, Other}
 use Rattle.records.specs.Body.{identity_body_state}
 use Rattle.constraint.specs.declared.velocity.Velocities.{Velocities}
-use Rattle.constraint.specs.declared.answer.Solved.{Solved}
-use Rattle.constraint.specs.declared.answer.WarmStarted.{WarmStarted}
+use Rattle.constraint.specs.Answer.{SolvedAnswer}
+use Rattle.constraint.specs.Answer.{WarmStartedAnswer}
 use Rattle.constraint.specs.Answer.{no_report}
 use Rattle.records.specs.Joint.{case_of}
 use Rattle.joint.specs.declared.store.StatePair.{StatePair}
@@ -160,7 +160,7 @@ module _ (joint : JointSim) (s : List BodyState) (q : Positions) where
     pair_is p e = ab-is ∙ ap (λ x. read_states x s) e
 
     pub warm_start_leaves : (kind : ℕ) → q ≡ positions_of kind joint (length s)
-        → (r : WarmStarted) → r ≡ warm_start_of kind joint ab.state_a ab.state_b
+        → (r : WarmStartedAnswer) → r ≡ warm_start_of kind joint ab.state_a ab.state_b
         → (u : List BodyState) → u ≡ write_states q r.velocities t
         → Leaves (direct_call (warm_start kind) joint s) q.answer joint u
     warm_start_leaves kind e r r-is u u-is =
@@ -173,7 +173,7 @@ module _ (joint : JointSim) (s : List BodyState) (q : Positions) where
         )
 
     pub solve_leaves : (kind : ℕ) → q ≡ positions_of kind joint (length s)
-        → (context : StepContext) (use_bias : Bool) (r : Solved) → r ≡ solve_of kind joint context ab.state_a ab.state_b use_bias
+        → (context : StepContext) (use_bias : Bool) (r : SolvedAnswer) → r ≡ solve_of kind joint context ab.state_a ab.state_b use_bias
         → (u : List BodyState) → u ≡ write_states q r.velocities t
         → Leaves (direct_call (solve kind context use_bias) joint s) (answer_of 0 r.report) r.joint u
     solve_leaves kind e context use_bias r r-is u u-is =

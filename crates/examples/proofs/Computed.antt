@@ -1,5 +1,4 @@
 -- One name for all that the checker opens to compute a stage of a joint: to open it is to open what its line names. Assumes nothing.
-use mathlib.Core.Option.{Option-elim}
 use lib.Ieee as Ieee
 use Rattle.sqrt.specs.Sqrt as Root
 use Rattle.math_functions.specs.Scalar as Scalar
@@ -23,7 +22,7 @@ use Rattle.joint.specs.Stage as Stage
 use Rattle.scene.specs.Scene as Scene
 
 unfoldable pub computed : Unit {0}
-unfolding Option-elim Ieee.of_bits Ieee.neg Ieee.add Ieee.sub Ieee.mul Ieee.div Ieee.lt Ieee.eq Ieee.le Root.sqrt
+unfolding Ieee.of_bits Ieee.neg Ieee.add Ieee.sub Ieee.mul Ieee.div Ieee.lt Ieee.eq Ieee.le Root.sqrt
     Scalar.abs_float Scalar.min_float Scalar.max_float Scalar.clamp_float Scalar.atan_unit Scalar.atan2
     Vector.add Vector.sub Vector.neg Vector.dot Vector.length Vector.normalize Vector.mul_add Vector.mul_sub Vector.mul_sv Vector.cross
     Internal.add2 Internal.sub2 Internal.mul_sv2

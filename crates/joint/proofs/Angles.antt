@@ -1,7 +1,6 @@
 -- The claims of specs/Claims.antt on the two angles, proved, each under its statement's name in small letters. Assumes nothing.
 use mathlib.Core.Path.{◌≡◌, refl, ap, ◌∙◌}
 use mathlib.Core.Bool.{Bool, cond}
-use mathlib.Core.Option.{Option-elim}
 use native.Mathlib.Omega.{arith}
 use lib.Ieee.{Float, nan}
 use Rattle.solver.specs.declared.StepContext.{StepContext}
@@ -29,7 +28,7 @@ stored : (worked : Bool) (angle : Float) → Stored worked angle (cond worked an
 stored worked angle = record { of_worked = λ e. rw e; of_other = λ e. rw e }
 
 pub solve_stores : SolveStores
-unfolding solve_as solve_revolute_joint solve_spherical_joint solve_weld_joint Option-elim twist_angle_if swing_angle_if
+unfolding solve_as solve_revolute_joint solve_spherical_joint solve_weld_joint twist_angle_if swing_angle_if
 solve_stores joint context a b use_bias =
     record {
       revolute = λ r e. rw (e, Revolute-facts.solve_angles joint.base r context.h context.inv_h a b use_bias)

@@ -2,7 +2,7 @@
 use mathlib.Core.Path.{◌≡◌, refl, ap}
 use mathlib.Core.Logic.{◌≢◌}
 use mathlib.Core.Bool.{Bool, not, cond}
-use mathlib.Core.Option.{Option, some, Option-elim}
+use mathlib.Core.Option.{Option, some}
 use Prim.Native.Nat.{ℕ}
 use lib.Dec.{eqb}
 use lib.IntN.{ℤ}
@@ -21,9 +21,9 @@ use Rattle.records.specs.declared.joint.JointUnion.TheVariants.{Revolute, Spheri
 use Rattle.records.specs.declared.joint.JointBase.{JointBase}
 use Rattle.records.specs.declared.joint.JointSim.{JointSim}
 use Rattle.records.specs.declared.joint.LimitAngles.{LimitAngles}
-use Rattle.records.specs.Joint.{case_of, as_revolute, as_spherical, as_weld, joint_sim}
-use Rattle.constraint.specs.declared.answer.Prepared.{Prepared}
-use Rattle.constraint.specs.declared.answer.Solved.{Solved}
+use Rattle.records.specs.Joint.{case_of, as_revolute, as_spherical, as_weld, joint_sim, of_kind}
+use Rattle.constraint.specs.Answer.{PreparedAnswer}
+use Rattle.constraint.specs.Answer.{SolvedAnswer}
 use Rattle.constraint.specs.Answer.{no_report}
 use Rattle.constraint.specs.Claims.{point_matrix}
 use Rattle.constraint.specs.Prepare.{inertia_det}
@@ -44,7 +44,7 @@ use Rattle.joint.specs.Claims.{MarksRead, MarksWithoutIndicesOrFlags, PrepareMar
 -- ---- what each mark says
 
 pub solve_marks : SolveMarks
-unfolding solve_as solve_revolute_joint solve_spherical_joint solve_weld_joint Option-elim
+unfolding solve_as solve_revolute_joint solve_spherical_joint solve_weld_joint
 solve_marks joint context a b use_bias =
     let base = joint.base in
     record {
@@ -62,7 +62,7 @@ solve_marks joint context a b use_bias =
     }
 
 pub prepare_mark : PrepareMark
-unfolding prepare_as prepare_revolute_joint prepare_spherical_joint prepare_weld_joint rotation_mass_mark Option-elim
+unfolding prepare_as prepare_revolute_joint prepare_spherical_joint prepare_weld_joint rotation_mass_mark
 prepare_mark joint context body_a body_b =
     let base = joint.base in
     let sum = inertia_sum body_a body_b in
@@ -80,7 +80,7 @@ module _ (joint : JointSim) (context : StepContext) (body_a body_b : BodyRecord)
   fell_back : (u : JointUnion) → joint.union_ ≡ u
       → (prepare_as u joint context body_a body_b).mass_mark ≡ FellBack
       → mass_of (prepare_as u joint context body_a body_b).joint.union_ ≡ some mat3_zero
-  unfolding prepare_as prepare_revolute_joint prepare_spherical_joint prepare_weld_joint Option-elim
+  unfolding prepare_as prepare_revolute_joint prepare_spherical_joint prepare_weld_joint
   fell_back (Revolute r) is = rw is (λ e. cc)
   fell_back (Spherical r) is =
       rw is (λ e. ap some (Spherical-marks.prepare_fell_back joint.base r context.h context.enable_warm_starting _ body_a body_b e))
@@ -92,15 +92,15 @@ pub prepare_fell_back : PrepareFellBack
 prepare_fell_back joint context body_a body_b = fell_back joint context body_a body_b joint.union_ refl
 
 -- a refusal has none, and what is worked is no refusal
-solve_refusal : {K : Type 0} (found : Option K) (refusal : Solved) (work : K → Solved) → refusal.report ≡ no_report → ((k : K) → (work k).number ≡ 0)
-    → (Option-elim found refusal work).number ≢ 0 → (Option-elim found refusal work).report ≡ no_report
+solve_refusal : {K : Type 0} (found : Option K) (refusal : SolvedAnswer) (work : K → SolvedAnswer) → refusal.report ≡ no_report → ((k : K) → (work k).number ≡ 0)
+    → (of_kind found refusal work).number ≢ 0 → (of_kind found refusal work).report ≡ no_report
 solve_refusal found refusal work is done =
-    always (λ (r : Solved). r.number ≢ 0 → r.report ≡ no_report) found refusal work (λ ne. is) (λ k ne. absurd (ne (done k)))
+    always (λ (r : SolvedAnswer). r.number ≢ 0 → r.report ≡ no_report) found refusal work (λ ne. is) (λ k ne. absurd (ne (done k)))
 
-prepare_refusal : {K : Type 0} (found : Option K) (refusal : Prepared) (work : K → Prepared) → refusal.mass_mark ≡ no_mark
-    → ((k : K) → (work k).number ≡ 0) → (Option-elim found refusal work).number ≢ 0 → (Option-elim found refusal work).mass_mark ≡ no_mark
+prepare_refusal : {K : Type 0} (found : Option K) (refusal : PreparedAnswer) (work : K → PreparedAnswer) → refusal.mass_mark ≡ no_mark
+    → ((k : K) → (work k).number ≡ 0) → (of_kind found refusal work).number ≢ 0 → (of_kind found refusal work).mass_mark ≡ no_mark
 prepare_refusal found refusal work is done =
-    always (λ (r : Prepared). r.number ≢ 0 → r.mass_mark ≡ no_mark) found refusal work (λ ne. is) (λ k ne. absurd (ne (done k)))
+    always (λ (r : PreparedAnswer). r.number ≢ 0 → r.mass_mark ≡ no_mark) found refusal work (λ ne. is) (λ k ne. absurd (ne (done k)))
 
 pub refusals_have_no_marks : RefusalsHaveNoMarks
 unfolding prepare_revolute_joint prepare_spherical_joint prepare_weld_joint solve_revolute_joint solve_spherical_joint solve_weld_joint
@@ -125,7 +125,7 @@ module _ (base : JointBase) (angles : LimitAngles) (x y : ℤ) (c d : StepContex
   solve_reads : (u : JointUnion)
       → let v = union_with_indices u x y in
       (solve_as v (joint_sim base v angles) c a b use_bias).report ≡ (solve_as u (joint_sim base u angles) d a' b' use_bias').report
-  unfolding solve_as solve_revolute_joint solve_spherical_joint solve_weld_joint Option-elim R.joint_rotation
+  unfolding solve_as solve_revolute_joint solve_spherical_joint solve_weld_joint R.joint_rotation
   solve_reads (Revolute r) =
       rw (
         Revolute-marks.solve_marks base _ a b c.h c.inv_h use_bias,
@@ -158,7 +158,7 @@ mark_of_case kind body_a body_b =
 
 mark_of_case_lem : (base : JointBase) (angles : LimitAngles) (c : StepContext) (body_a body_b : BodyRecord) (u : JointUnion)
     → (prepare_as u (joint_sim base u angles) c body_a body_b).mass_mark ≡ mark_of_case (case_of u) body_a body_b
-unfolding prepare_as prepare_revolute_joint prepare_spherical_joint prepare_weld_joint Option-elim
+unfolding prepare_as prepare_revolute_joint prepare_spherical_joint prepare_weld_joint
 mark_of_case_lem base angles c body_a body_b (Revolute r) = refl
 mark_of_case_lem base angles c body_a body_b (Spherical r) = Spherical-marks.prepare_mark base r c.h c.enable_warm_starting _ body_a body_b
 mark_of_case_lem base angles c body_a body_b (Weld w) = Weld-marks.prepare_mark base w c.h c.enable_warm_starting _ body_a body_b

@@ -1,7 +1,6 @@
 -- What prepare of a joint of any kind answers. Assumes nothing.
 use mathlib.Core.Path.{◌≡◌, refl, ap}
 use mathlib.Core.Bool.{false≢true}
-use mathlib.Core.Option.{Option-elim}
 use native.Mathlib.Omega.{arith}
 use Rattle.solver.specs.declared.StepContext.{StepContext}
 use Rattle.records.specs.declared.body.BodyRecord.{BodyRecord}
@@ -10,7 +9,7 @@ use Rattle.records.specs.declared.joint.LimitAngles.{LimitAngles}
 use Rattle.records.specs.declared.joint.JointUnion.{JointUnion}
 use Rattle.records.specs.declared.joint.JointUnion.TheVariants.{Revolute, Spherical, Weld, Other}
 use Rattle.records.specs.Joint.{is_other, joint_sim}
-use Rattle.constraint.specs.declared.answer.Prepared.{Prepared}
+use Rattle.constraint.specs.Answer.{PreparedAnswer}
 use Rattle.revolute.specs.Revolute.{prepare_revolute_joint}
 use Rattle.spherical.specs.Spherical.{prepare_spherical_joint}
 use Rattle.weld.specs.Weld.{prepare_weld_joint}
@@ -18,7 +17,7 @@ use Rattle.joint.specs.Prepare.{prepare_as, prepare_joint}
 use Rattle.joint.specs.Claims.{PrepareAnswer, PrepareNumber}
 
 module _ (base : JointBase) (angles : LimitAngles) (context : StepContext) (body_a body_b : BodyRecord) where
-  abbrev answer : JointUnion → Prepared
+  abbrev answer : JointUnion → PreparedAnswer
   answer u = prepare_joint (joint_sim base u angles) context body_a body_b
 
   -- a case that is one of the three is worked
@@ -32,7 +31,7 @@ module _ (base : JointBase) (angles : LimitAngles) (context : StepContext) (body
       }
 
   by_case : (u : JointUnion) → PrepareAnswer (joint_sim base u angles) context body_a body_b
-  unfolding prepare_as prepare_revolute_joint prepare_spherical_joint prepare_weld_joint Option-elim
+  unfolding prepare_as prepare_revolute_joint prepare_spherical_joint prepare_weld_joint
   by_case (Revolute j) = done (Revolute j) (λ e. false≢true (ap is_other e)) refl refl
   by_case (Spherical j) = done (Spherical j) (λ e. false≢true (ap is_other e)) refl refl
   by_case (Weld j) = done (Weld j) (λ e. false≢true (ap is_other e)) refl refl

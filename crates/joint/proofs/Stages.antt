@@ -12,8 +12,8 @@ use Rattle.records.specs.declared.joint.JointSim.{JointSim}
 use Rattle.records.specs.declared.joint.JointUnion.{JointUnion}
 use Rattle.records.specs.declared.joint.JointUnion.TheVariants.{Revolute, Spherical, Weld, Other}
 use Rattle.records.specs.Joint.{case_of}
-use Rattle.constraint.specs.declared.answer.WarmStarted.{WarmStarted}
-use Rattle.constraint.specs.declared.answer.Solved.{Solved}
+use Rattle.constraint.specs.Answer.{WarmStartedAnswer}
+use Rattle.constraint.specs.Answer.{SolvedAnswer}
 use Rattle.revolute.specs.Revolute.{warm_start_revolute_joint, solve_revolute_joint}
 use Rattle.spherical.specs.Spherical.{warm_start_spherical_joint, solve_spherical_joint}
 use Rattle.weld.specs.Weld.{warm_start_weld_joint, solve_weld_joint}
@@ -24,11 +24,11 @@ use Rattle.joint.specs.Stage.{warm_start_as, warm_start_joint, solve_as, solve_j
 
 -- ---- by the kind's number
 
-abbrev pub warm_start_of : ℕ → JointSim → BodyState → BodyState → WarmStarted
+abbrev pub warm_start_of : ℕ → JointSim → BodyState → BodyState → WarmStartedAnswer
 warm_start_of kind joint a b =
     cond (eqb kind 0) (warm_start_revolute_joint joint a b) (cond (eqb kind 1) (warm_start_spherical_joint joint a b) (warm_start_weld_joint joint a b))
 
-abbrev pub solve_of : ℕ → JointSim → StepContext → BodyState → BodyState → Bool → Solved
+abbrev pub solve_of : ℕ → JointSim → StepContext → BodyState → BodyState → Bool → SolvedAnswer
 solve_of kind joint context a b use_bias =
     cond (eqb kind 0) (solve_revolute_joint joint context a b use_bias)
     (cond (eqb kind 1) (solve_spherical_joint joint context a b use_bias) (solve_weld_joint joint context a b use_bias))

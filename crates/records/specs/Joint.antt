@@ -1,5 +1,5 @@
 -- Which case a joint is, the two angles of its limits, a joint after a solve, and a joint that is not in use. Definitions only. Assumes nothing.
-use Rattle.std.specs.Prelude.{Bool, true, false, ℕ, Float}
+use Rattle.std.specs.Prelude.{◌≡◌, Bool, true, false, ℕ, Float, Result, Ok, Err}
 use Rattle.std.proofs.Math.Option.{Option, none, some}
 use Rattle.std.specs.Float.{nan}
 use Rattle.records.specs.declared.joint.RevoluteJoint.{RevoluteJoint}
@@ -10,6 +10,7 @@ use Rattle.records.specs.declared.joint.JointUnion.{JointUnion}
 use Rattle.records.specs.declared.joint.JointUnion.TheVariants.{Revolute, Spherical, Weld, Other}
 use Rattle.records.specs.declared.joint.LimitAngles.{LimitAngles}
 use Rattle.records.specs.declared.joint.JointSim.{JointSim}
+use Rattle.records.specs.declared.refusal.WrongKind.{WrongKind}
 use Rattle.records.specs.Base.{default_base}
 
 -- which case a joint is
@@ -37,6 +38,16 @@ as_weld (Revolute r) = none
 as_weld (Spherical r) = none
 as_weld (Weld r) = some r
 as_weld Other = none
+
+-- what is done with the record of a kind, and what is answered where the joint is of another
+abbrev pub of_kind : {K A : Type 0} → Option K → A → (K → A) → A
+of_kind none other done = other
+of_kind (some joint) other done = done joint
+
+-- what a joint's case is opened as: the record of the kind, or a refusal where the case is another
+abbrev pub Opened : {K : Type 0} → Option K → Result K WrongKind → Type 0
+Opened found (Ok joint) = found ≡ some joint
+Opened found (Err w) = found ≡ none
 
 abbrev pub is_some : {K : Type 0} → Option K → Bool
 is_some none = false

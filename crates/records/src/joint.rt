@@ -1,12 +1,14 @@
 // Joint records: the three kinds, the union of them, the part that all kinds share, and the angles of
 // the limits.
 ghost use Rattle.std.specs.Prelude.{◌≡◌};
+ghost use Rattle.records.specs.declared.joint.JointUnion.TheVariants.{Revolute, Spherical, Weld};
 ghost use Rattle.records.specs.Joint as D;
 ghost use Rattle.records.specs.Revolute as R;
 ghost use Rattle.records.specs.Spherical as S;
 ghost use Rattle.records.specs.Weld as W;
 
 use crate::NULL_INDEX;
+use crate::refusal::WrongKind;
 use math_functions::types::{
     MAT3_ZERO, Matrix3, QUAT_IDENTITY, Quat, TRANSFORM_IDENTITY, Transform, VEC2_ZERO, VEC3_ZERO,
     Vec2, Vec3, nan,
@@ -230,6 +232,69 @@ pub enum JointUnion {
     Spherical(SphericalJoint),
     Weld(WeldJoint),
     Other,
+}
+
+impl From<RevoluteJoint> for JointUnion {
+    ghost from_gives = { λ j u. u ≡ Revolute j };
+
+    fn from(joint: RevoluteJoint) -> JointUnion {
+        JointUnion::Revolute(joint)
+    }
+}
+
+impl TryFrom<JointUnion> for RevoluteJoint {
+    type Error = WrongKind;
+
+    ghost try_from_gives = { λ u r. D.Opened (D.as_revolute u) r };
+
+    fn try_from(union_: JointUnion) -> Result<RevoluteJoint, WrongKind> {
+        match union_ {
+            JointUnion::Revolute(joint) => Ok(joint),
+            _ => Err(WrongKind),
+        }
+    }
+}
+
+impl From<SphericalJoint> for JointUnion {
+    ghost from_gives = { λ j u. u ≡ Spherical j };
+
+    fn from(joint: SphericalJoint) -> JointUnion {
+        JointUnion::Spherical(joint)
+    }
+}
+
+impl TryFrom<JointUnion> for SphericalJoint {
+    type Error = WrongKind;
+
+    ghost try_from_gives = { λ u r. D.Opened (D.as_spherical u) r };
+
+    fn try_from(union_: JointUnion) -> Result<SphericalJoint, WrongKind> {
+        match union_ {
+            JointUnion::Spherical(joint) => Ok(joint),
+            _ => Err(WrongKind),
+        }
+    }
+}
+
+impl From<WeldJoint> for JointUnion {
+    ghost from_gives = { λ j u. u ≡ Weld j };
+
+    fn from(joint: WeldJoint) -> JointUnion {
+        JointUnion::Weld(joint)
+    }
+}
+
+impl TryFrom<JointUnion> for WeldJoint {
+    type Error = WrongKind;
+
+    ghost try_from_gives = { λ u r. D.Opened (D.as_weld u) r };
+
+    fn try_from(union_: JointUnion) -> Result<WeldJoint, WrongKind> {
+        match union_ {
+            JointUnion::Weld(joint) => Ok(joint),
+            _ => Err(WrongKind),
+        }
+    }
 }
 
 // The base joint simulation class, all but the union.

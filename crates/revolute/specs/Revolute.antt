@@ -1,6 +1,5 @@
 -- joint/revolute.rs: prepare, warm start and solve of a revolute joint. Definitions only. Assumes nothing.
-use Rattle.std.specs.Prelude.{Bool, not, cond, Float}
-use Rattle.std.proofs.Math.Option.{Option-elim}
+use Rattle.std.specs.Prelude.{Bool, not, cond, Float, Option, Some}
 use Rattle.std.specs.Float.{nan}
 use Rattle.math_functions.specs.declared.types.Vec2.{Vec2}
 use Rattle.math_functions.specs.declared.types.Vec3.{Vec3}
@@ -27,7 +26,7 @@ use Rattle.records.specs.declared.joint.JointBase.{JointBase}
 use Rattle.records.specs.declared.joint.LimitAngles.{LimitAngles}
 use Rattle.records.specs.declared.joint.JointSim.{JointSim}
 use Rattle.records.specs.declared.joint.JointUnion.TheVariants.{Revolute}
-use Rattle.records.specs.Joint.{as_revolute, limit_angles, no_angles, joint_sim, after_solve}
+use Rattle.records.specs.Joint.{as_revolute, limit_angles, no_angles, joint_sim, after_solve, of_kind}
 use Rattle.records.specs.Revolute.{Written, Made, built, settings_of, with_written}
 use Rattle.constraint.specs.declared.velocity.Velocities.{Velocities}
 use Rattle.constraint.specs.declared.velocity.InvMasses.{InvMasses}
@@ -37,9 +36,9 @@ use Rattle.constraint.specs.declared.angular.AxialRow.{AxialRow}
 use Rattle.constraint.specs.declared.angular.LimitRows.{LimitRows}
 use Rattle.constraint.specs.declared.point.PointRow.{PointRow}
 use Rattle.constraint.specs.declared.answer.Report.{Report}
-use Rattle.constraint.specs.declared.answer.Prepared.{Prepared}
-use Rattle.constraint.specs.declared.answer.WarmStarted.{WarmStarted}
-use Rattle.constraint.specs.declared.answer.Solved.{Solved}
+use Rattle.constraint.specs.Answer.{PreparedAnswer}
+use Rattle.constraint.specs.Answer.{WarmStartedAnswer}
+use Rattle.constraint.specs.Answer.{SolvedAnswer}
 use Rattle.constraint.specs.Velocity.{velocities_of, inv_masses_of, apply_axial, apply_angular, apply_point, apply_warm}
 use Rattle.constraint.specs.Soft.{soft_bias, soft_bias2, soft_impulse, soft_impulse3_products, rigid2}
 use Rattle.constraint.specs.Rotation.{flipped_relative_rotation}
@@ -180,7 +179,7 @@ perp_mass inv_inertia_sum axis_x axis_y =
 unfoldable pub soft_impulse2_products : SoftBias2 → Vec2 → Vec2 → Vec2
 soft_impulse2_products s b old_impulse = sub2 (mul_sv2 (neg s.mass_scale) b) (mul_sv2 s.impulse_scale old_impulse)
 
-abbrev pub perp_result : Vec2 → Vec3 → Vec3 → Velocities → Mark → PerpRow
+abbrev pub perp_result : Vec2 → Vec3 → Vec3 → Velocities → Option Mark → PerpRow
 perp_result impulse axis_x axis_y velocities mark =
     record { perp_impulse = impulse; perp_axis_x = axis_x; perp_axis_y = axis_y; velocities = velocities; mark = mark }
 
@@ -193,7 +192,7 @@ collinear_row s axis_x axis_y old_impulse m v =
     let sol = solve2 k (add2 cdot s.bias) in
     let delta_impulse = soft_impulse2_products s sol old_impulse in
     perp_result (add2 old_impulse delta_impulse) axis_x axis_y (apply_angular m (perp_angular_impulse delta_impulse axis_x axis_y) v)
-    (solve2_mark k)
+    (Some (solve2_mark k))
 
 -- document 01's two perpendicular axes: no switch, and new axes for the warm start. C-15: 'a row not worked' has no mark
 unfoldable pub perp_row : Bool → RelativeRotation → Softness → Bool → Vec3 → Vec3 → Vec2 → InvMasses → Velocities → PerpRow
@@ -280,27 +279,27 @@ solve_revolute base j h inv_h state_a state_b use_bias =
     perp.perp_axis_x perp.perp_axis_y)
     (limit_angles angle nan)
     point.velocities
-    (report perp.mark point.mark)
+    (report perp.mark (Some point.mark))
 
 -- ==== The stages over a joint of any kind
 
 -- A joint whose case is not Revolute gets number 1, place 0, and nothing is altered.
 
 -- of the context h and enable_warm_starting. C-11: 'prepare stores NaN in both'. C-15: no mass is inverted
-unfoldable pub prepare_revolute_joint : JointSim → StepContext → BodyRecord → BodyRecord → Prepared
+unfoldable pub prepare_revolute_joint : JointSim → StepContext → BodyRecord → BodyRecord → PreparedAnswer
 prepare_revolute_joint sim context body_a body_b =
-    Option-elim (as_revolute sim.union_) (not_prepared sim) λ j.
+    of_kind (as_revolute sim.union_) (not_prepared sim) λ j.
     let delta_center = sub_pos body_b.center body_a.center in
     let r = prepare_revolute sim.base j context.h context.enable_warm_starting delta_center body_a body_b in
     prepared (joint_sim r.base (Revolute r.joint) no_angles) no_mark
 
-unfoldable pub warm_start_revolute_joint : JointSim → BodyState → BodyState → WarmStarted
+unfoldable pub warm_start_revolute_joint : JointSim → BodyState → BodyState → WarmStartedAnswer
 warm_start_revolute_joint sim state_a state_b =
-    Option-elim (as_revolute sim.union_) (not_warm_started sim state_a state_b) λ j. warm_started sim (warm_start_revolute sim.base j state_a state_b)
+    of_kind (as_revolute sim.union_) (not_warm_started sim state_a state_b) λ j. warm_started sim (warm_start_revolute sim.base j state_a state_b)
 
 -- of the context h and inv_h
-unfoldable pub solve_revolute_joint : JointSim → StepContext → BodyState → BodyState → Bool → Solved
+unfoldable pub solve_revolute_joint : JointSim → StepContext → BodyState → BodyState → Bool → SolvedAnswer
 solve_revolute_joint sim context state_a state_b use_bias =
-    Option-elim (as_revolute sim.union_) (not_solved sim state_a state_b) λ j.
+    of_kind (as_revolute sim.union_) (not_solved sim state_a state_b) λ j.
     let r = solve_revolute sim.base j context.h context.inv_h state_a state_b use_bias in
     solved (after_solve sim (Revolute r.joint) r.angles) r.velocities r.report

@@ -29,7 +29,7 @@ pub struct PerpRow {
     pub perp_axis_x: Vec3,
     pub perp_axis_y: Vec3,
     pub velocities: Velocities,
-    pub mark: Mark,
+    pub mark: Option<Mark>,
 }
 
 // The spring pulls the twist angle to the target angle.
@@ -171,7 +171,7 @@ fn collinear_row(
     let perp_impulse = add2(old_impulse, delta_impulse);
     let angular_impulse = perp_angular_impulse(delta_impulse, axis_x, axis_y);
     let velocities = apply_angular(m, angular_impulse, v);
-    let mark = sol.mark;
+    let mark = Some(sol.mark);
     PerpRow {
         perp_impulse,
         perp_axis_x: axis_x,
@@ -202,7 +202,7 @@ pub fn perp_row(
             perp_axis_x: old_axis_x,
             perp_axis_y: old_axis_y,
             velocities: v,
-            mark: Mark::None,
+            mark: None,
         };
     }
     let s = perp_bias(use_bias, softness, rotation.rel_q);

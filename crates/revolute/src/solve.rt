@@ -246,11 +246,9 @@ pub fn solve_revolute(
         swing: nan(),
     };
     let velocities = point.velocities;
-    let perp_mark = perp.mark;
-    let point_mark = point.mark;
     let report = Report {
-        perp_mark,
-        point_mark,
+        perp_mark: perp.mark,
+        point_mark: Some(point.mark),
     };
     RevoluteSolved {
         joint,

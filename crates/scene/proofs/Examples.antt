@@ -3,7 +3,6 @@ use mathlib.Core.Path.{◌≡◌, refl, sym, ap, ◌∙◌, subst}
 use mathlib.Core.Logic.{◌⊎◌, inl, inr, ◌≢◌}
 use mathlib.Core.Bool.{Bool, true, false, true≢false, false≢true}
 use mathlib.Core.List.{[]}
-use mathlib.Core.Option.{Option-elim}
 use Prim.Native.Nat.{ℕ, zero, suc, ◌+◌}
 use native.Mathlib.Omega.{arith}
 use lib.Dec.{eqb}
@@ -59,7 +58,7 @@ each_alike j = either_order (eqb 0 j) (eqb 1 j) _ _ (λ p q. omega (arith, eqb-t
 -- where the first body ends with a dynamic one in the middle, in both orders; and where the first and the last end with one that is not dynamic
 ends : (end_x 0x1000 first_then_second 0 ≡ two) × (end_x 0x1000 second_then_first 0 ≡ four)
     × (end_x 0 first_then_second 0 ≡ two) × (end_x 0 first_then_second 2 ≡ four)
-unfolding chain plain_run verdict early_cause cause step store is_still same_velocities Option-elim Body.is_dynamic Body.store_velocities
+unfolding chain plain_run verdict early_cause cause step store is_still same_velocities Body.is_dynamic Body.store_velocities
     Stage.stage_joint Stage.warm_start_as Stage.solve_as
     Weld.solve_weld_joint Weld.solve_weld Weld.joint_rotation Weld.solve_angular Weld.weld_angular_row Weld.solve_bias Weld.solve_point
     Weld.point_row Weld.is_soft

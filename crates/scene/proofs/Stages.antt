@@ -2,7 +2,6 @@
 use mathlib.Core.Path.{◌≡◌, refl, sym, ap, ◌∙◌}
 use mathlib.Core.Logic.{◌≢◌}
 use mathlib.Core.Bool.{Bool, true, false, cond, false≢true}
-use mathlib.Core.Option.{Option-elim}
 use Prim.Native.Nat.{ℕ}
 use lib.Dec.{eqb}
 use borrow.Author.Tests.{eq-eqb, ne_eqb}
@@ -37,7 +36,7 @@ no_limits u v l c =
 
 module _ (base : JointBase) (angles : LimitAngles) (context : StepContext) (a b : BodyState) (use_bias : Bool) where
   solve_keeps : (u : JointUnion) → settings_of (solve_joint (joint_sim base u angles) context a b use_bias).joint ≡ settings_of (joint_sim base u angles)
-  unfolding solve_as solve_revolute_joint solve_spherical_joint solve_weld_joint Option-elim
+  unfolding solve_as solve_revolute_joint solve_spherical_joint solve_weld_joint
   solve_keeps (Revolute j) =
       ap (λ x. settings_of (joint_sim base (Revolute x) no_angles)) (Revolute-facts.solve_keeps base j context.h context.inv_h a b use_bias)
   solve_keeps (Spherical j) =
@@ -47,7 +46,7 @@ module _ (base : JointBase) (angles : LimitAngles) (context : StepContext) (a b 
 
   solve_limits_of : (u : JointUnion) → base.fixed_rotation ≡ false
       → LimitsNonNegative u (solve_joint (joint_sim base u angles) context a b use_bias).joint.union_
-  unfolding solve_as solve_revolute_joint solve_spherical_joint solve_weld_joint Option-elim
+  unfolding solve_as solve_revolute_joint solve_spherical_joint solve_weld_joint
   solve_limits_of (Revolute j) free =
       let limits = Revolute-facts.solve_limits_lem base j context.h context.inv_h a b use_bias free in
       record { lower = limits.lower; upper = limits.upper; swing = λ on. absurd (false≢true on) }

@@ -21,9 +21,9 @@ use Rattle.records.specs.Spherical.{with_indices}
 use Rattle.constraint.specs.declared.velocity.Velocities.{Velocities}
 use Rattle.constraint.specs.declared.velocity.InvMasses.{InvMasses}
 use Rattle.constraint.specs.declared.angular.AxialRow.{AxialRow}
-use Rattle.constraint.specs.declared.answer.Prepared.{Prepared}
-use Rattle.constraint.specs.declared.answer.WarmStarted.{WarmStarted}
-use Rattle.constraint.specs.declared.answer.Solved.{Solved}
+use Rattle.constraint.specs.Answer.{PreparedAnswer}
+use Rattle.constraint.specs.Answer.{WarmStartedAnswer}
+use Rattle.constraint.specs.Answer.{SolvedAnswer}
 use Rattle.constraint.specs.Velocity.{velocities_of}
 use Rattle.constraint.specs.Angular.{is_worked, twist_angle_if, swing_angle_if, twist_limit_rows}
 use Rattle.constraint.specs.Prepare.{prepare_base}
@@ -174,7 +174,7 @@ module _ (sim : JointSim) (context : StepContext) (body_a body_b : BodyRecord) w
   -- the number is 1 exactly where the case is another
   pub prepare_number : (prepare_spherical_joint sim context body_a body_b).number ≡ cond (is_spherical sim.union_) 0 1
   unfolding prepare_spherical_joint
-  prepare_number = numbered (λ (r : Prepared). r.number) (as_spherical sim.union_) _ _ refl (λ k. refl)
+  prepare_number = numbered (λ (r : PreparedAnswer). r.number) (as_spherical sim.union_) _ _ refl (λ k. refl)
 
   -- and then the joint is as it was
   pub prepare_refused : is_spherical sim.union_ ≡ false → prepare_spherical_joint sim context body_a body_b ≡ not_prepared sim
@@ -184,37 +184,37 @@ module _ (sim : JointSim) (context : StepContext) (body_a body_b : BodyRecord) w
   -- a spherical joint stays one, and no other becomes one
   pub prepare_case : is_spherical (prepare_spherical_joint sim context body_a body_b).joint.union_ ≡ is_spherical sim.union_
   unfolding prepare_spherical_joint
-  prepare_case = case_kept (λ (r : Prepared). r.joint.union_) as_spherical sim.union_ _ _ refl (λ k. refl)
+  prepare_case = case_kept (λ (r : PreparedAnswer). r.joint.union_) as_spherical sim.union_ _ _ refl (λ k. refl)
 
   -- the number is at most 1, and the place 0
   pub prepare_range : AtMostOne (prepare_spherical_joint sim context body_a body_b).number (prepare_spherical_joint sim context body_a body_b).place
   unfolding prepare_spherical_joint
-  prepare_range = always (λ (r : Prepared). AtMostOne r.number r.place) (as_spherical sim.union_) _ _ one_at_most (λ k. zero_at_most)
+  prepare_range = always (λ (r : PreparedAnswer). AtMostOne r.number r.place) (as_spherical sim.union_) _ _ one_at_most (λ k. zero_at_most)
 
   -- where the number is 0 the base is what `prepare_base` makes of it
   pub prepare_base_lem : (prepare_spherical_joint sim context body_a body_b).number ≡ 0
       → (prepare_spherical_joint sim context body_a body_b).joint.base ≡ prepare_base sim.base body_a body_b
   unfolding prepare_spherical_joint prepare_spherical
   prepare_base_lem =
-      accepted (λ (r : Prepared). r.number) (λ (r : Prepared). r.joint.base ≡ prepare_base sim.base body_a body_b) (as_spherical sim.union_) _ _
+      accepted (λ (r : PreparedAnswer). r.number) (λ (r : PreparedAnswer). r.joint.base ≡ prepare_base sim.base body_a body_b) (as_spherical sim.union_) _ _
       refl (λ k. refl)
 
   -- where the number is 0 both angles are NaN
   pub prepare_angles : (prepare_spherical_joint sim context body_a body_b).number ≡ 0
       → (prepare_spherical_joint sim context body_a body_b).joint.angles ≡ no_angles
   unfolding prepare_spherical_joint
-  prepare_angles = accepted (λ (r : Prepared). r.number) (λ (r : Prepared). r.joint.angles ≡ no_angles) (as_spherical sim.union_) _ _ refl (λ k. refl)
+  prepare_angles = accepted (λ (r : PreparedAnswer). r.number) (λ (r : PreparedAnswer). r.joint.angles ≡ no_angles) (as_spherical sim.union_) _ _ refl (λ k. refl)
 
 module _ (sim : JointSim) (state_a state_b : BodyState) where
   -- a warm start changes no field of the joint
   pub warm_start_joint_lem : (warm_start_spherical_joint sim state_a state_b).joint ≡ sim
   unfolding warm_start_spherical_joint
-  warm_start_joint_lem = kept (λ (r : WarmStarted). r.joint) sim (as_spherical sim.union_) _ _ refl (λ k. refl)
+  warm_start_joint_lem = kept (λ (r : WarmStartedAnswer). r.joint) sim (as_spherical sim.union_) _ _ refl (λ k. refl)
 
   -- the number is 1 exactly where the case is another
   pub warm_start_number : (warm_start_spherical_joint sim state_a state_b).number ≡ cond (is_spherical sim.union_) 0 1
   unfolding warm_start_spherical_joint
-  warm_start_number = numbered (λ (r : WarmStarted). r.number) (as_spherical sim.union_) _ _ refl (λ k. refl)
+  warm_start_number = numbered (λ (r : WarmStartedAnswer). r.number) (as_spherical sim.union_) _ _ refl (λ k. refl)
 
   -- and then joint and velocities are as they were
   pub warm_start_refused : is_spherical sim.union_ ≡ false → warm_start_spherical_joint sim state_a state_b ≡ not_warm_started sim state_a state_b
@@ -224,29 +224,29 @@ module _ (sim : JointSim) (state_a state_b : BodyState) where
   -- the number is at most 1, and the place 0
   pub warm_start_range : AtMostOne (warm_start_spherical_joint sim state_a state_b).number (warm_start_spherical_joint sim state_a state_b).place
   unfolding warm_start_spherical_joint
-  warm_start_range = always (λ (r : WarmStarted). AtMostOne r.number r.place) (as_spherical sim.union_) _ _ one_at_most (λ k. zero_at_most)
+  warm_start_range = always (λ (r : WarmStartedAnswer). AtMostOne r.number r.place) (as_spherical sim.union_) _ _ one_at_most (λ k. zero_at_most)
 
 module _ (sim : JointSim) (context : StepContext) (state_a state_b : BodyState) (use_bias : Bool) where
   -- a solve changes nothing of the joint but the spherical record and the two angles
   pub solve_base : (solve_spherical_joint sim context state_a state_b use_bias).joint.base ≡ sim.base
   unfolding solve_spherical_joint
-  solve_base = kept (λ (r : Solved). r.joint.base) sim.base (as_spherical sim.union_) _ _ refl (λ k. refl)
+  solve_base = kept (λ (r : SolvedAnswer). r.joint.base) sim.base (as_spherical sim.union_) _ _ refl (λ k. refl)
 
   -- and of the whole joint nothing changes but that record (`solve_keeps`) and the two angles (`solve_angles`)
   pub solve_joint_keeps : let next = (solve_spherical_joint sim context state_a state_b use_bias).joint in next ≡ after_solve sim next.union_ next.angles
   unfolding solve_spherical_joint
   solve_joint_keeps =
-      always (λ (r : Solved). r.joint ≡ after_solve sim r.joint.union_ r.joint.angles) (as_spherical sim.union_) _ _ refl (λ k. refl)
+      always (λ (r : SolvedAnswer). r.joint ≡ after_solve sim r.joint.union_ r.joint.angles) (as_spherical sim.union_) _ _ refl (λ k. refl)
 
   -- a spherical joint stays one, and no other becomes one
   pub solve_case : is_spherical (solve_spherical_joint sim context state_a state_b use_bias).joint.union_ ≡ is_spherical sim.union_
   unfolding solve_spherical_joint
-  solve_case = case_kept (λ (r : Solved). r.joint.union_) as_spherical sim.union_ _ _ refl (λ k. refl)
+  solve_case = case_kept (λ (r : SolvedAnswer). r.joint.union_) as_spherical sim.union_ _ _ refl (λ k. refl)
 
   -- the number is 1 exactly where the case is another
   pub solve_number : (solve_spherical_joint sim context state_a state_b use_bias).number ≡ cond (is_spherical sim.union_) 0 1
   unfolding solve_spherical_joint
-  solve_number = numbered (λ (r : Solved). r.number) (as_spherical sim.union_) _ _ refl (λ k. refl)
+  solve_number = numbered (λ (r : SolvedAnswer). r.number) (as_spherical sim.union_) _ _ refl (λ k. refl)
 
   -- and then joint and velocities are as they were
   pub solve_refused : is_spherical sim.union_ ≡ false → solve_spherical_joint sim context state_a state_b use_bias ≡ not_solved sim state_a state_b
@@ -257,12 +257,12 @@ module _ (sim : JointSim) (context : StepContext) (state_a state_b : BodyState) 
   pub solve_range :
       AtMostOne (solve_spherical_joint sim context state_a state_b use_bias).number (solve_spherical_joint sim context state_a state_b use_bias).place
   unfolding solve_spherical_joint
-  solve_range = always (λ (r : Solved). AtMostOne r.number r.place) (as_spherical sim.union_) _ _ one_at_most (λ k. zero_at_most)
+  solve_range = always (λ (r : SolvedAnswer). AtMostOne r.number r.place) (as_spherical sim.union_) _ _ one_at_most (λ k. zero_at_most)
 
   -- where the number is 0 and rotation is not fixed, the enabled limits' impulses of the joint that is returned are zero or positive, never a NaN
   pub solve_joint_limits : (solve_spherical_joint sim context state_a state_b use_bias).number ≡ 0 → sim.base.fixed_rotation ≡ false
       → BothOfKind as_spherical LimitImpulsesNonNegative sim.union_ (solve_spherical_joint sim context state_a state_b use_bias).joint.union_
   unfolding solve_spherical_joint
   solve_joint_limits e free =
-      both_of_kind (λ (r : Solved). r.number) (λ (r : Solved). r.joint.union_) as_spherical LimitImpulsesNonNegative sim.union_ _ _ refl
+      both_of_kind (λ (r : SolvedAnswer). r.number) (λ (r : SolvedAnswer). r.joint.union_) as_spherical LimitImpulsesNonNegative sim.union_ _ _ refl
       (λ j. (_, refl, solve_limits_lem sim.base j context.h context.inv_h state_a state_b use_bias free)) e

@@ -3,4 +3,3 @@ pub mod Facts
 pub mod Marks
 mod Limits
 mod One
-mod Others

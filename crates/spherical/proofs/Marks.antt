@@ -1,4 +1,5 @@
 -- C-15's marks of the spherical joint's solve and prepare, for all inputs: each at the matrix that was formed. Assumes nothing.
+use Rattle.std.specs.Prelude.{Some}
 use mathlib.Core.Path.{◌≡◌, refl, sym, ◌∙◌}
 use mathlib.Core.Bool.{Bool, true, false}
 use lib.Ieee.{Float}
@@ -21,15 +22,15 @@ use Rattle.spherical.specs.Spherical.{prepare_rotation_mass, rotation_mass_mark,
 
 pub solve_marks : (base : JointBase) (j : SphericalJoint) (state_a state_b : BodyState) (h inv_h : Float) (use_bias : Bool) →
     (solve_spherical base j h inv_h state_a state_b use_bias).report
-    ≡ report no_mark (solve3_mark (point_matrix base j.frame_a j.frame_b state_a state_b))
+    ≡ report no_mark (Some (solve3_mark (point_matrix base j.frame_a j.frame_b state_a state_b)))
 unfolding solve_spherical solve_point point_row
 solve_marks base j state_a state_b h inv_h use_bias = refl
 
 -- where rotation is fixed the mass is zeros too, and has no mark
-fell_back : (fixed_rotation : Bool) (sum : Matrix3) → rotation_mass_mark fixed_rotation sum ≡ FellBack → prepare_rotation_mass fixed_rotation sum ≡ mat3_zero
+fell_back : (fixed_rotation : Bool) (sum : Matrix3) → rotation_mass_mark fixed_rotation sum ≡ Some FellBack → prepare_rotation_mass fixed_rotation sum ≡ mat3_zero
 unfolding prepare_rotation_mass rotation_mass_mark
 fell_back true sum e = refl
-fell_back false sum e = fell_back_to_zeros.inverse sum e
+fell_back false sum e = fell_back_to_zeros.inverse sum (cc)
 
 kept_mass : (j : SphericalJoint) (enable_warm_starting : Bool) → (keep_impulses j enable_warm_starting).rotation_mass ≡ j.rotation_mass
 unfolding keep_impulses
@@ -52,6 +53,6 @@ module _ (base : JointBase) (j : SphericalJoint) (h : Float) (enable_warm_starti
 
   -- where it fell back it is zeros
   pub prepare_fell_back :
-      (prepare_spherical base j h enable_warm_starting delta_center body_a body_b).mass_mark ≡ FellBack
+      (prepare_spherical base j h enable_warm_starting delta_center body_a body_b).mass_mark ≡ Some FellBack
       → (prepare_spherical base j h enable_warm_starting delta_center body_a body_b).joint.rotation_mass ≡ mat3_zero
   prepare_fell_back e = prepare_mass ∙ fell_back (lt (inertia_det body_a body_b) threshold) _ (sym prepare_mark ∙ e)

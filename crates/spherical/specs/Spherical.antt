@@ -1,6 +1,5 @@
 -- joint/spherical.rs: prepare, warm start and solve of a ball joint. Definitions only. Assumes nothing.
-use Rattle.std.specs.Prelude.{Bool, not, cond, Float}
-use Rattle.std.proofs.Math.Option.{Option-elim}
+use Rattle.std.specs.Prelude.{Bool, not, cond, Float, Option, Some}
 use Rattle.sqrt.specs.Sqrt.{sqrt}
 use Rattle.math_functions.specs.declared.types.Vec3.{Vec3}
 use Rattle.math_functions.specs.declared.types.Quat.{Quat}
@@ -23,7 +22,7 @@ use Rattle.records.specs.declared.joint.LimitAngles.{LimitAngles}
 use Rattle.records.specs.declared.joint.JointSim.{JointSim}
 use Rattle.records.specs.declared.joint.JointUnion.TheVariants.{Spherical}
 use Rattle.records.specs.declared.joint.SphericalJoint.{SphericalJoint}
-use Rattle.records.specs.Joint.{as_spherical, limit_angles, no_angles, joint_sim, after_solve}
+use Rattle.records.specs.Joint.{as_spherical, limit_angles, no_angles, joint_sim, after_solve, of_kind}
 use Rattle.records.specs.Spherical.{Made, built, written_of, settings_of, with_written}
 use Rattle.constraint.specs.declared.velocity.Velocities.{Velocities}
 use Rattle.constraint.specs.declared.velocity.InvMasses.{InvMasses}
@@ -34,9 +33,9 @@ use Rattle.constraint.specs.declared.angular.LimitRows.{LimitRows}
 use Rattle.constraint.specs.declared.angular.Row3.{Row3}
 use Rattle.constraint.specs.declared.point.PointRow.{PointRow}
 use Rattle.constraint.specs.declared.answer.Report.{Report}
-use Rattle.constraint.specs.declared.answer.Prepared.{Prepared}
-use Rattle.constraint.specs.declared.answer.WarmStarted.{WarmStarted}
-use Rattle.constraint.specs.declared.answer.Solved.{Solved}
+use Rattle.constraint.specs.Answer.{PreparedAnswer}
+use Rattle.constraint.specs.Answer.{WarmStartedAnswer}
+use Rattle.constraint.specs.Answer.{SolvedAnswer}
 use Rattle.constraint.specs.Velocity.{velocities_of, inv_masses_of, apply_angular, apply_point, apply_warm}
 use Rattle.constraint.specs.Soft.{soft_bias3, limit_bias, soft_impulse3}
 use Rattle.constraint.specs.Rotation.{relative_rotation}
@@ -94,14 +93,14 @@ unfoldable pub prepare_rotation_mass : Bool → Matrix3 → Matrix3
 prepare_rotation_mass fixed_rotation inv_inertia_sum = cond (not fixed_rotation) (invert_matrix inv_inertia_sum) mat3_zero
 
 -- C-15: the rotation mass's mark: 'a mass not inverted' has none
-unfoldable pub rotation_mass_mark : Bool → Matrix3 → Mark
-rotation_mass_mark fixed_rotation inv_inertia_sum = cond (not fixed_rotation) (invert_matrix_mark inv_inertia_sum) no_mark
+unfoldable pub rotation_mass_mark : Bool → Matrix3 → Option Mark
+rotation_mass_mark fixed_rotation inv_inertia_sum = cond (not fixed_rotation) (Some (invert_matrix_mark inv_inertia_sum)) no_mark
 
 -- document 01's prepare: impulses are cleared only if warm starting is off
 unfoldable pub keep_impulses : SphericalJoint → Bool → SphericalJoint
 keep_impulses j enable_warm_starting = cond (not enable_warm_starting) (with_impulses j vec3_zero vec3_zero vec3_zero zero zero zero) j
 
-abbrev pub spherical_prepared : JointBase → SphericalJoint → Mark → SphericalPrepared
+abbrev pub spherical_prepared : JointBase → SphericalJoint → Option Mark → SphericalPrepared
 spherical_prepared base joint mass_mark = record { base = base; joint = joint; mass_mark = mass_mark }
 
 -- document 01's prepare, where delta_center is the difference of the centres. The cone axis is the z-axis of frame A, the twist axis that of frame B
@@ -259,27 +258,27 @@ solve_spherical base j h inv_h state_a state_b use_bias =
     (with_impulses j point.impulse spring.impulse motor.impulse limits.lower_impulse limits.upper_impulse cone.impulse)
     (limit_angles twist swing)
     point.velocities
-    (report no_mark point.mark)
+    (report no_mark (Some point.mark))
 
 -- ==== The stages over a joint of any kind
 
 -- A joint whose case is not Spherical gets number 1, place 0, and nothing is altered.
 
 -- of the context h and enable_warm_starting. C-11: 'prepare stores NaN in both'. C-15: the rotation mass's mark is passed on
-unfoldable pub prepare_spherical_joint : JointSim → StepContext → BodyRecord → BodyRecord → Prepared
+unfoldable pub prepare_spherical_joint : JointSim → StepContext → BodyRecord → BodyRecord → PreparedAnswer
 prepare_spherical_joint sim context body_a body_b =
-    Option-elim (as_spherical sim.union_) (not_prepared sim) λ j.
+    of_kind (as_spherical sim.union_) (not_prepared sim) λ j.
     let delta_center = sub_pos body_b.center body_a.center in
     let r = prepare_spherical sim.base j context.h context.enable_warm_starting delta_center body_a body_b in
     prepared (joint_sim r.base (Spherical r.joint) no_angles) r.mass_mark
 
-unfoldable pub warm_start_spherical_joint : JointSim → BodyState → BodyState → WarmStarted
+unfoldable pub warm_start_spherical_joint : JointSim → BodyState → BodyState → WarmStartedAnswer
 warm_start_spherical_joint sim state_a state_b =
-    Option-elim (as_spherical sim.union_) (not_warm_started sim state_a state_b) λ j. warm_started sim (warm_start_spherical sim.base j state_a state_b)
+    of_kind (as_spherical sim.union_) (not_warm_started sim state_a state_b) λ j. warm_started sim (warm_start_spherical sim.base j state_a state_b)
 
 -- of the context h and inv_h
-unfoldable pub solve_spherical_joint : JointSim → StepContext → BodyState → BodyState → Bool → Solved
+unfoldable pub solve_spherical_joint : JointSim → StepContext → BodyState → BodyState → Bool → SolvedAnswer
 solve_spherical_joint sim context state_a state_b use_bias =
-    Option-elim (as_spherical sim.union_) (not_solved sim state_a state_b) λ j.
+    of_kind (as_spherical sim.union_) (not_solved sim state_a state_b) λ j.
     let r = solve_spherical sim.base j context.h context.inv_h state_a state_b use_bias in
     solved (after_solve sim (Spherical r.joint) r.angles) r.velocities r.report

@@ -1,11 +1,10 @@
 // The prepare of a spherical joint.
 ghost use Rattle.std.specs.Prelude.{◌≡◌};
-ghost use Rattle.math_functions.specs.Matrix.{marked_matrix3};
 ghost use Rattle.spherical.specs.Spherical as D;
 
 use constraint::prepare::{awake_index, axial_mass, prepare_base, prepare_frame};
 use math_functions::mark::Mark;
-use math_functions::matrix::{MarkedMatrix3, add_mm, invert_matrix};
+use math_functions::matrix::{add_mm, invert_matrix};
 use math_functions::quat::{inv_mul_quat, rotate_vector};
 use math_functions::types::{MAT3_ZERO, Matrix3, Quat, VEC3_AXIS_Z, VEC3_ZERO, Vec3};
 use math_functions::vector::{cross, mul_add, normalize};
@@ -19,7 +18,14 @@ use sqrt::sqrt;
 pub struct SphericalPrepared {
     pub base: JointBase,
     pub joint: SphericalJoint,
-    pub mass_mark: Mark,
+    pub mass_mark: Option<Mark>,
+}
+
+// The rotation mass, and its mark where it is inverted.
+#[derive(Clone, Copy)]
+struct RotationMass {
+    pub value: Matrix3,
+    pub mark: Option<Mark>,
 }
 
 // The axis of a limit, and the effective mass about it.
@@ -92,17 +98,20 @@ fn prepare_twist(
 
 // The rotation mass and its mark: it is not inverted where rotation is fixed.
 #[tactic(auto, unfolding(crate::specs::Spherical::prepare_rotation_mass, crate::specs::Spherical::rotation_mass_mark))]
-fn prepare_rotation_mass(fixed_rotation: bool, inv_inertia_sum: Matrix3) -> MarkedMatrix3
-    ensures { result ≡ marked_matrix3 (D.prepare_rotation_mass fixed_rotation inv_inertia_sum)
-        (D.rotation_mass_mark fixed_rotation inv_inertia_sum) }
+fn prepare_rotation_mass(fixed_rotation: bool, inv_inertia_sum: Matrix3) -> RotationMass
+    ensures value { result.value ≡ D.prepare_rotation_mass fixed_rotation inv_inertia_sum }
+    ensures mark { result.mark ≡ D.rotation_mass_mark fixed_rotation inv_inertia_sum }
 {
-    if !fixed_rotation {
-        invert_matrix(inv_inertia_sum)
-    } else {
-        MarkedMatrix3 {
+    if fixed_rotation {
+        return RotationMass {
             value: MAT3_ZERO,
-            mark: Mark::None,
-        }
+            mark: None,
+        };
+    }
+    let mass = invert_matrix(inv_inertia_sum);
+    RotationMass {
+        value: mass.value,
+        mark: Some(mass.mark),
     }
 }
 

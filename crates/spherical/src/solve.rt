@@ -13,7 +13,6 @@ use constraint::point::point_bias;
 use constraint::rotation::{RelativeRotation, relative_rotation};
 use constraint::soft::{SoftBias3, limit_bias};
 use constraint::velocity::{InvMasses, Velocities, apply_axial, inv_masses_of, velocities_of};
-use math_functions::mark::Mark;
 use math_functions::quat::rotate_vector;
 use math_functions::types::Vec3;
 use records::body::BodyState;
@@ -245,10 +244,9 @@ pub fn solve_spherical(
     let spring_impulse = spring.impulse;
     let motor_impulse = motor.impulse;
     let velocities = point.velocities;
-    let point_mark = point.mark;
     let report = Report {
-        perp_mark: Mark::None,
-        point_mark,
+        perp_mark: None,
+        point_mark: Some(point.mark),
     };
     joint.linear_impulse = linear_impulse;
     joint.spring_impulse = spring_impulse;

@@ -1,4 +1,5 @@
 -- C-15's marks of the weld joint's solve and prepare, for all inputs: each at the matrix that was formed. Assumes nothing.
+use Rattle.std.specs.Prelude.{Some}
 use mathlib.Core.Path.{◌≡◌, refl, sym, ◌∙◌}
 use mathlib.Core.Bool.{Bool, true, false}
 use lib.Ieee.{Float}
@@ -17,7 +18,7 @@ use Rattle.constraint.specs.Claims.{point_matrix}
 use Rattle.weld.specs.Weld.{keep_impulses, prepare_weld, point_row, solve_point, solve_weld}
 
 pub solve_marks : (base : JointBase) (j : WeldJoint) (state_a state_b : BodyState) (use_bias : Bool) →
-    (solve_weld base j state_a state_b use_bias).report ≡ report no_mark (solve3_mark (point_matrix base j.frame_a j.frame_b state_a state_b))
+    (solve_weld base j state_a state_b use_bias).report ≡ report no_mark (Some (solve3_mark (point_matrix base j.frame_a j.frame_b state_a state_b)))
 unfolding solve_weld solve_point point_row
 solve_marks base j state_a state_b use_bias = refl
 

@@ -1,6 +1,5 @@
 -- joint/weld.rs: prepare, warm start and solve of a weld joint. Definitions only. Assumes nothing.
-use Rattle.std.specs.Prelude.{Bool, not, cond, ◌||◌, Float}
-use Rattle.std.proofs.Math.Option.{Option-elim}
+use Rattle.std.specs.Prelude.{Bool, not, cond, ◌||◌, Float, Some}
 use Rattle.math_functions.specs.declared.types.Vec3.{Vec3}
 use Rattle.math_functions.specs.declared.types.Matrix3.{Matrix3}
 use Rattle.math_functions.specs.declared.mark.Mark.{Mark}
@@ -21,7 +20,7 @@ use Rattle.records.specs.declared.joint.JointBase.{JointBase}
 use Rattle.records.specs.declared.joint.JointSim.{JointSim}
 use Rattle.records.specs.declared.joint.JointUnion.TheVariants.{Weld}
 use Rattle.records.specs.Weld.{built, written_of, settings_of, with_written}
-use Rattle.records.specs.Joint.{as_weld, no_angles, joint_sim, after_solve}
+use Rattle.records.specs.Joint.{as_weld, no_angles, joint_sim, after_solve, of_kind}
 use Rattle.constraint.specs.declared.velocity.Velocities.{Velocities}
 use Rattle.constraint.specs.declared.velocity.InvMasses.{InvMasses}
 use Rattle.constraint.specs.declared.soft.SoftBias3.{SoftBias3}
@@ -29,9 +28,9 @@ use Rattle.constraint.specs.declared.rotation.RelativeRotation.{RelativeRotation
 use Rattle.constraint.specs.declared.angular.Row3.{Row3}
 use Rattle.constraint.specs.declared.point.PointRow.{PointRow}
 use Rattle.constraint.specs.declared.answer.Report.{Report}
-use Rattle.constraint.specs.declared.answer.Prepared.{Prepared}
-use Rattle.constraint.specs.declared.answer.WarmStarted.{WarmStarted}
-use Rattle.constraint.specs.declared.answer.Solved.{Solved}
+use Rattle.constraint.specs.Answer.{PreparedAnswer}
+use Rattle.constraint.specs.Answer.{WarmStartedAnswer}
+use Rattle.constraint.specs.Answer.{SolvedAnswer}
 use Rattle.constraint.specs.Velocity.{velocities_of, inv_masses_of, apply_point, apply_warm}
 use Rattle.constraint.specs.Soft.{soft_bias3, rigid3, soft_impulse3}
 use Rattle.constraint.specs.Rotation.{flipped_relative_rotation}
@@ -148,27 +147,27 @@ solve_weld base j state_a state_b use_bias =
     let rotation = joint_rotation j state_a state_b in
     let angular = solve_angular base.fixed_rotation j rotation use_bias m (velocities_of state_a state_b) in
     let point = solve_point j state_a state_b use_bias m angular.velocities in
-    weld_solved (with_impulses j point.impulse angular.impulse) point.velocities (report no_mark point.mark)
+    weld_solved (with_impulses j point.impulse angular.impulse) point.velocities (report no_mark (Some point.mark))
 
 -- ==== The stages over a joint of any kind
 
 -- A joint whose case is not Weld gets number 1, place 0, and nothing is altered.
 
 -- of the context h and enable_warm_starting. C-11: 'prepare stores NaN in both'. C-15: the angular mass's mark is passed on
-unfoldable pub prepare_weld_joint : JointSim → StepContext → BodyRecord → BodyRecord → Prepared
+unfoldable pub prepare_weld_joint : JointSim → StepContext → BodyRecord → BodyRecord → PreparedAnswer
 prepare_weld_joint sim context body_a body_b =
-    Option-elim (as_weld sim.union_) (not_prepared sim) λ j.
+    of_kind (as_weld sim.union_) (not_prepared sim) λ j.
     let delta_center = sub_pos body_b.center body_a.center in
     let r = prepare_weld sim.base j context.h context.enable_warm_starting delta_center body_a body_b in
-    prepared (joint_sim r.base (Weld r.joint) no_angles) r.mass_mark
+    prepared (joint_sim r.base (Weld r.joint) no_angles) (Some r.mass_mark)
 
-unfoldable pub warm_start_weld_joint : JointSim → BodyState → BodyState → WarmStarted
+unfoldable pub warm_start_weld_joint : JointSim → BodyState → BodyState → WarmStartedAnswer
 warm_start_weld_joint sim state_a state_b =
-    Option-elim (as_weld sim.union_) (not_warm_started sim state_a state_b) λ j. warm_started sim (warm_start_weld sim.base j state_a state_b)
+    of_kind (as_weld sim.union_) (not_warm_started sim state_a state_b) λ j. warm_started sim (warm_start_weld sim.base j state_a state_b)
 
 -- of the context nothing. C-11: a weld has no limit row, so that its solve stores NaN in both
-unfoldable pub solve_weld_joint : JointSim → StepContext → BodyState → BodyState → Bool → Solved
+unfoldable pub solve_weld_joint : JointSim → StepContext → BodyState → BodyState → Bool → SolvedAnswer
 solve_weld_joint sim context state_a state_b use_bias =
-    Option-elim (as_weld sim.union_) (not_solved sim state_a state_b) λ j.
+    of_kind (as_weld sim.union_) (not_solved sim state_a state_b) λ j.
     let r = solve_weld sim.base j state_a state_b use_bias in
     solved (after_solve sim (Weld r.joint) no_angles) r.velocities r.report

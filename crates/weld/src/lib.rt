@@ -1,25 +1,19 @@
 // The weld joint: a rigid connection (optionally softened by linear/angular springs) that locks the
-// relative position and orientation of two frames. Its three stages, over a joint of any kind. Prepare
-// and solve put their answers together themselves: made by a call, as the warm start's, they would be
-// copied once more.
+// relative position and orientation of two frames. Its three stages, over a joint of any kind.
 #![tactic(auto)]
 
 ghost use Rattle.std.specs.Prelude.{◌≡◌};
-ghost use Rattle.records.specs.Joint.{joint_sim};
-ghost use Rattle.records.specs.declared.joint.JointUnion.TheVariants.{Weld};
+ghost use Rattle.constraint.specs.Answer.{prepare_answer, warm_start_answer, solve_answer};
 ghost use Rattle.weld.specs.Weld as D;
 
 use crate::prepare::prepare_weld;
 use crate::solve::solve_weld;
 use crate::warm_start::warm_start_weld;
-use constraint::answer::{
-    NO_REPORT, Prepared, Solved, WRONG_KIND, WarmStarted, warm_start_done, warm_start_refused,
-};
-use constraint::velocity::velocities_of;
-use math_functions::mark::Mark;
+use constraint::answer::{Prepared, Solved, WarmStarted};
 use math_functions::transform::sub_pos;
 use records::body::{BodyRecord, BodyState};
-use records::joint::{JointBase, JointSim, JointUnion, LimitAngles, WeldJoint, no_angles};
+use records::joint::{JointSim, WeldJoint, joint_sim, no_angles};
+use records::refusal::WrongKind;
 use solver::StepContext;
 
 mod prepare;
@@ -27,35 +21,17 @@ mod rows;
 mod solve;
 mod warm_start;
 
-// A joint of this kind.
-fn weld_sim(base: JointBase, joint: WeldJoint, angles: LimitAngles) -> JointSim
-    ensures { result ≡ joint_sim base (Weld joint) angles }
-{
-    JointSim {
-        base,
-        union_: JointUnion::Weld(joint),
-        angles,
-    }
-}
-
 // Prepare; a joint that is no weld joint is refused.
+#[tactic(auto, unfolding(crate::specs::Weld::prepare_weld_joint))]
 pub fn prepare_weld_joint(
-    mut joint: JointSim,
+    joint: JointSim,
     context: StepContext,
     body_a: BodyRecord,
     body_b: BodyRecord,
-) -> Prepared
-    ensures { result ≡ D.prepare_weld_joint joint context body_a body_b }
+) -> Result<Prepared, WrongKind>
+    ensures { prepare_answer joint result ≡ D.prepare_weld_joint joint context body_a body_b }
 {
-    let u = joint.union_;
-    let JointUnion::Weld(k) = u else {
-        return Prepared {
-            number: WRONG_KIND,
-            place: 0,
-            joint,
-            mass_mark: Mark::None,
-        };
-    };
+    let k = WeldJoint::try_from(joint.union_)?;
     let delta_center = sub_pos(body_b.center, body_a.center);
     let p = prepare_weld(
         joint.base,
@@ -66,57 +42,42 @@ pub fn prepare_weld_joint(
         body_a,
         body_b,
     );
-    let mass_mark = p.mass_mark;
-    joint = weld_sim(p.base, p.joint, no_angles());
-    Prepared {
-        number: 0,
-        place: 0,
-        joint,
-        mass_mark,
-    }
+    Ok(Prepared {
+        joint: joint_sim(p.base, p.joint.into(), no_angles()),
+        mass_mark: Some(p.mass_mark),
+    })
 }
 
-// Warm start; a joint that is no weld joint is refused.
-pub fn warm_start_weld_joint(joint: JointSim, state_a: BodyState, state_b: BodyState) -> WarmStarted
-    ensures { result ≡ D.warm_start_weld_joint joint state_a state_b }
+// Warm start; the joint comes back as it was, and one of another kind is refused.
+#[tactic(auto, unfolding(crate::specs::Weld::warm_start_weld_joint))]
+pub fn warm_start_weld_joint(
+    joint: JointSim,
+    state_a: BodyState,
+    state_b: BodyState,
+) -> Result<WarmStarted, WrongKind>
+    ensures { warm_start_answer joint state_a state_b result ≡ D.warm_start_weld_joint joint state_a state_b }
 {
-    let u = joint.union_;
-    let JointUnion::Weld(k) = u else {
-        return warm_start_refused(joint, state_a, state_b);
-    };
+    let k = WeldJoint::try_from(joint.union_)?;
     let velocities = warm_start_weld(joint.base, k, state_a, state_b);
-    warm_start_done(joint, velocities)
+    Ok(WarmStarted { joint, velocities })
 }
 
 // Solve; a joint that is no weld joint is refused. `context` is unused, as in the Rust.
+#[tactic(auto, unfolding(crate::specs::Weld::solve_weld_joint))]
 pub fn solve_weld_joint(
-    mut joint: JointSim,
+    joint: JointSim,
     context: StepContext,
     state_a: BodyState,
     state_b: BodyState,
     use_bias: bool,
-) -> Solved
-    ensures { result ≡ D.solve_weld_joint joint context state_a state_b use_bias }
+) -> Result<Solved, WrongKind>
+    ensures { solve_answer joint state_a state_b result ≡ D.solve_weld_joint joint context state_a state_b use_bias }
 {
-    let u = joint.union_;
-    let JointUnion::Weld(k) = u else {
-        return Solved {
-            number: WRONG_KIND,
-            place: 0,
-            joint,
-            velocities: velocities_of(state_a, state_b),
-            report: NO_REPORT,
-        };
-    };
+    let k = WeldJoint::try_from(joint.union_)?;
     let s = solve_weld(joint.base, k, state_a, state_b, use_bias);
-    let velocities = s.velocities;
-    let report = s.report;
-    joint = weld_sim(joint.base, s.joint, no_angles());
-    Solved {
-        number: 0,
-        place: 0,
-        joint,
-        velocities,
-        report,
-    }
+    Ok(Solved {
+        joint: joint_sim(joint.base, s.joint.into(), no_angles()),
+        velocities: s.velocities,
+        report: s.report,
+    })
 }

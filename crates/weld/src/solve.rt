@@ -9,7 +9,6 @@ use constraint::point::point_bias;
 use constraint::rotation::{RelativeRotation, same_polarity};
 use constraint::soft::SoftBias3;
 use constraint::velocity::{InvMasses, Velocities, inv_masses_of, velocities_of};
-use math_functions::mark::Mark;
 use math_functions::quat::{inv_mul_quat, mul_quat, rotate_vector};
 use math_functions::types::Vec3;
 use records::body::BodyState;
@@ -106,10 +105,9 @@ pub fn solve_weld(
     let linear_impulse = point.impulse;
     let angular_impulse = angular.impulse;
     let velocities = point.velocities;
-    let point_mark = point.mark;
     let report = Report {
-        perp_mark: Mark::None,
-        point_mark,
+        perp_mark: None,
+        point_mark: Some(point.mark),
     };
     joint.linear_impulse = linear_impulse;
     joint.angular_impulse = angular_impulse;
