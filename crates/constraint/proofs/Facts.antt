@@ -1,8 +1,8 @@
 -- What the kinds' facts lean on: a limit row's impulse is zero or positive and never a NaN, whatever the row is handed; and what a stage leaves of a joint of
 -- any kind. Assumes nothing.
+use Rattle.std.specs.Prelude.{Option, None, Some}
 use mathlib.Core.Path.{◌≡◌, refl}
 use mathlib.Core.Bool.{Bool, true, false, cond, ◌||◌}
-use mathlib.Core.Option.{Option, none, some}
 use Prim.Native.Nat.{ℕ}
 use native.Mathlib.Omega.{arith}
 use lib.Ieee as Ieee
@@ -68,8 +68,8 @@ one_at_most = record { number_bound = omega arith; place_zero = refl }
 module _ {K A : Type 0} where
   -- what holds of the refusal and of every work
   pub always : (P : A → Type 0) (found : Option K) (refusal : A) (work : K → A) → P refusal → ((k : K) → P (work k)) → P (of_kind found refusal work)
-  always P none refusal work p q = p
-  always P (some k) refusal work p q = q k
+  always P None refusal work p q = p
+  always P (Some k) refusal work p q = q k
 
   -- what a refusal and every work leave alike
   pub kept : {B : Type 0} (f : A → B) (b : B) (found : Option K) (refusal : A) (work : K → A) → f refusal ≡ b → ((k : K) → f (work k) ≡ b) → f
@@ -78,12 +78,12 @@ module _ {K A : Type 0} where
 
   pub numbered : (number : A → ℕ) (found : Option K) (refusal : A) (work : K → A) → number refusal ≡ 1 → ((k : K) → number (work k) ≡ 0) → number
       (of_kind found refusal work) ≡ cond (is_some found) 0 1
-  numbered number none refusal work p q = p
-  numbered number (some k) refusal work p q = q k
+  numbered number None refusal work p q = p
+  numbered number (Some k) refusal work p q = q k
 
   pub refused : (found : Option K) (refusal : A) (work : K → A) → is_some found ≡ false → of_kind found refusal work ≡ refusal
-  refused none refusal work e = refl
-  refused (some k) refusal work e = cc
+  refused None refusal work e = refl
+  refused (Some k) refusal work e = cc
 
   -- a joint of the kind stays one, and no other becomes one
   pub case_kept : (union : A → JointUnion) (kind_of : JointUnion → Option K) (u : JointUnion) (refusal : A) (work : K → A) → union refusal ≡ u →
@@ -91,8 +91,8 @@ module _ {K A : Type 0} where
   case_kept union kind_of u refusal work p q = go (kind_of u) refl
     where
       go : (found : Option K) → kind_of u ≡ found → is_some (kind_of (union (of_kind found refusal work))) ≡ is_some found
-      go none e = rw (p, e)
-      go (some k) e = q k
+      go None e = rw (p, e)
+      go (Some k) e = q k
 
   -- what holds of every work holds where the number is 0
   pub accepted : (number : A → ℕ) (P : A → Type 0) (found : Option K) (refusal : A) (work : K → A)
@@ -102,11 +102,11 @@ module _ {K A : Type 0} where
   -- and there the joint was of the kind and still is, if every work leaves it so
   pub both_of_kind : (number : A → ℕ) (union : A → JointUnion) (kind_of : JointUnion → Option K) (P : K → K → Type 0) (u : JointUnion)
       (refusal : A) (work : K → A)
-      → number refusal ≡ 1 → ((k : K) → (next : K) × (kind_of (union (work k)) ≡ some next) × P k next)
+      → number refusal ≡ 1 → ((k : K) → (next : K) × (kind_of (union (work k)) ≡ Some next) × P k next)
       → number (of_kind (kind_of u) refusal work) ≡ 0 → BothOfKind kind_of P u (union (of_kind (kind_of u) refusal work))
   both_of_kind number union kind_of P u refusal work one q = by (kind_of u) refl
     where
       by : (found : Option K) → kind_of u ≡ found → number (of_kind found refusal work) ≡ 0
           → BothOfKind kind_of P u (union (of_kind found refusal work))
-      by none e z = absurd (omega (arith, one, z))
-      by (some k) e z = let r = q k in record { joint = k; next = r.0; was = e; became = r.1; holds = r.2 }
+      by None e z = absurd (omega (arith, one, z))
+      by (Some k) e z = let r = q k in record { joint = k; next = r.0; was = e; became = r.1; holds = r.2 }

@@ -1,8 +1,7 @@
 -- What the statements about the stages are made of: an impulse that does not pull, a stage's number and place, a joint of a kind before and after, the matrix
 -- of a point row.
 -- Definitions only. Assumes nothing.
-use Rattle.std.specs.Prelude.{◌≡◌, true, ℕ, ◌≤◌, Float}
-use Rattle.std.proofs.Math.Option.{Option, some}
+use Rattle.std.specs.Prelude.{◌≡◌, true, ℕ, ◌≤◌, Float, Option, Some}
 use Rattle.std.specs.Float.Ieee as Ieee
 use Rattle.math_functions.specs.declared.types.Matrix3.{Matrix3}
 use Rattle.math_functions.specs.declared.types.Transform.{Transform}
@@ -27,8 +26,8 @@ pub record AtMostOne (number place : ℕ) : Type 0 where
 pub record BothOfKind {K : Type 0} (kind_of : JointUnion → Option K) (P : K → K → Type 0) (before after : JointUnion) : Type 0 where
   pub joint : K
   pub next : K
-  pub was : kind_of before ≡ some joint
-  pub became : kind_of after ≡ some next
+  pub was : kind_of before ≡ Some joint
+  pub became : kind_of after ≡ Some next
   pub holds : P joint next
 
 -- the matrix that a solve forms for its point row, of a joint with these two frames: r_a and r_b reach from the centres to the anchors

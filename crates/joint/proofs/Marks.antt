@@ -1,8 +1,8 @@
 -- The claims of specs/Claims.antt on the marks, proved, each under its statement's name in small letters. Assumes nothing.
+use Rattle.std.specs.Prelude.{Option, Some}
 use mathlib.Core.Path.{◌≡◌, refl, ap}
 use mathlib.Core.Logic.{◌≢◌}
 use mathlib.Core.Bool.{Bool, not, cond}
-use mathlib.Core.Option.{Option, some}
 use Prim.Native.Nat.{ℕ}
 use lib.Dec.{eqb}
 use lib.IntN.{ℤ}
@@ -50,7 +50,7 @@ solve_marks joint context a b use_bias =
     record {
       revolute = λ r e. rw (e, Revolute-marks.solve_marks base r a b context.h context.inv_h use_bias)
           (record {
-            perp = worked_says (not base.fixed_rotation) (passes2 (perp_matrix base r a b)) (solve2_mark (perp_matrix base r a b))
+            perp = worked_says (not base.fixed_rotation) (passes2 (perp_matrix base r a b)) (Some (solve2_mark (perp_matrix base r a b)))
                 (marks_say.solve2 (perp_matrix base r a b));
             point = marks_say.solve3 (point_matrix base r.frame_a r.frame_b a b);
           });
@@ -69,7 +69,7 @@ prepare_mark joint context body_a body_b =
     record {
       revolute = λ r e. rw e;
       spherical = λ r e. rw (e, Spherical-marks.prepare_mark base r context.h context.enable_warm_starting _ body_a body_b)
-          (worked_says (not (lt (inertia_det body_a body_b) threshold)) (passes3 sum) (invert_matrix_mark sum) (marks_say.inverse sum));
+          (worked_says (not (lt (inertia_det body_a body_b) threshold)) (passes3 sum) (Some (invert_matrix_mark sum)) (marks_say.inverse sum));
       weld = λ w e. rw (e, Weld-marks.prepare_mark base w context.h context.enable_warm_starting _ body_a body_b) (marks_say.inverse sum);
       refused = λ e. rw e;
     }
@@ -78,14 +78,14 @@ prepare_mark joint context body_a body_b =
 
 module _ (joint : JointSim) (context : StepContext) (body_a body_b : BodyRecord) where
   fell_back : (u : JointUnion) → joint.union_ ≡ u
-      → (prepare_as u joint context body_a body_b).mass_mark ≡ FellBack
-      → mass_of (prepare_as u joint context body_a body_b).joint.union_ ≡ some mat3_zero
+      → (prepare_as u joint context body_a body_b).mass_mark ≡ Some FellBack
+      → mass_of (prepare_as u joint context body_a body_b).joint.union_ ≡ Some mat3_zero
   unfolding prepare_as prepare_revolute_joint prepare_spherical_joint prepare_weld_joint
   fell_back (Revolute r) is = rw is (λ e. cc)
   fell_back (Spherical r) is =
-      rw is (λ e. ap some (Spherical-marks.prepare_fell_back joint.base r context.h context.enable_warm_starting _ body_a body_b e))
+      rw is (λ e. ap Some (Spherical-marks.prepare_fell_back joint.base r context.h context.enable_warm_starting _ body_a body_b e))
   fell_back (Weld w) is =
-      rw is (λ e. ap some (Weld-marks.prepare_fell_back joint.base w context.h context.enable_warm_starting _ body_a body_b e))
+      rw is (λ e. ap Some (Weld-marks.prepare_fell_back joint.base w context.h context.enable_warm_starting _ body_a body_b (cc)))
   fell_back Other is = λ e. cc
 
 pub prepare_fell_back : PrepareFellBack
@@ -151,17 +151,17 @@ pub marks_without_indices_or_flags : MarksWithoutIndicesOrFlags
 marks_without_indices_or_flags joint context a b use_bias x y f g = marks_read joint x y context context _ _ a b use_bias use_bias refl refl
 
 -- prepare's mark, by the joint's case
-abbrev mark_of_case : ℕ → BodyRecord → BodyRecord → Mark
+abbrev mark_of_case : ℕ → BodyRecord → BodyRecord → Option Mark
 mark_of_case kind body_a body_b =
     let sum = inertia_sum body_a body_b in
-    cond (eqb kind 1) (rotation_mass_mark (lt (inertia_det body_a body_b) threshold) sum) (cond (eqb kind 2) (invert_matrix_mark sum) no_mark)
+    cond (eqb kind 1) (rotation_mass_mark (lt (inertia_det body_a body_b) threshold) sum) (cond (eqb kind 2) (Some (invert_matrix_mark sum)) no_mark)
 
 mark_of_case_lem : (base : JointBase) (angles : LimitAngles) (c : StepContext) (body_a body_b : BodyRecord) (u : JointUnion)
     → (prepare_as u (joint_sim base u angles) c body_a body_b).mass_mark ≡ mark_of_case (case_of u) body_a body_b
 unfolding prepare_as prepare_revolute_joint prepare_spherical_joint prepare_weld_joint
 mark_of_case_lem base angles c body_a body_b (Revolute r) = refl
 mark_of_case_lem base angles c body_a body_b (Spherical r) = Spherical-marks.prepare_mark base r c.h c.enable_warm_starting _ body_a body_b
-mark_of_case_lem base angles c body_a body_b (Weld w) = Weld-marks.prepare_mark base w c.h c.enable_warm_starting _ body_a body_b
+mark_of_case_lem base angles c body_a body_b (Weld w) = ap Some (Weld-marks.prepare_mark base w c.h c.enable_warm_starting _ body_a body_b)
 mark_of_case_lem base angles c body_a body_b Other = refl
 
 pub prepare_mark_reads : PrepareMarkReads

@@ -2,8 +2,7 @@
 -- and of prepare, in the words of document 01, of C-11 and of C-15. Statements only: each is proved in proofs/Angles.antt, proofs/Prepares.antt or
 -- proofs/Marks.antt, under the same name in small letters.
 -- Assumes nothing.
-use Rattle.std.specs.Prelude.{◌≡◌, ◌≢◌, ◌↔◌, Bool, true, false, not, ℕ, ◌≤◌, Float, ℤ}
-use Rattle.std.proofs.Math.Option.{Option, none, some}
+use Rattle.std.specs.Prelude.{◌≡◌, ◌≢◌, ◌↔◌, Bool, true, false, not, ℕ, ◌≤◌, Float, ℤ, Option, None, Some}
 use Rattle.std.specs.Float.{nan}
 use Rattle.math_functions.specs.declared.mark.Mark.{Mark}
 use Rattle.math_functions.specs.declared.mark.Mark.TheVariants.{FellBack}
@@ -129,7 +128,7 @@ inertia_sum body_a body_b = add_mm body_a.inv_inertia_world body_b.inv_inertia_w
 
 -- 'and prepare that of the rotation or angular mass': spherical's rotation mass is inverted where prepare does not find rotation fixed, weld's angular mass
 -- always. Revolute has no such mass, and a refusal none
-pub record PreparedMark (joint : JointSim) (body_a body_b : BodyRecord) (mark : Mark) : Type 0 where
+pub record PreparedMark (joint : JointSim) (body_a body_b : BodyRecord) (mark : Option Mark) : Type 0 where
   pub revolute : (r : RevoluteJoint) → joint.union_ ≡ Revolute r → mark ≡ no_mark
   pub spherical : (r : SphericalJoint) → joint.union_ ≡ Spherical r
       → Says mark (not (lt (inertia_det body_a body_b) threshold)) (passes3 (inertia_sum body_a body_b))
@@ -142,16 +141,16 @@ PrepareMark = (joint : JointSim) (context : StepContext) (body_a body_b : BodyRe
 
 -- the mass that prepare inverts: spherical's rotation mass, weld's angular mass
 abbrev pub mass_of : JointUnion → Option Matrix3
-mass_of (Revolute r) = none
-mass_of (Spherical r) = some r.rotation_mass
-mass_of (Weld w) = some w.angular_mass
-mass_of Other = none
+mass_of (Revolute r) = None
+mass_of (Spherical r) = Some r.rotation_mass
+mass_of (Weld w) = Some w.angular_mass
+mass_of Other = None
 
 -- Where prepare's mark is fell back, the mass that it stored is zeros.
 abbrev pub PrepareFellBack : Type 0
 PrepareFellBack = (joint : JointSim) (context : StepContext) (body_a body_b : BodyRecord)
-    → (prepare_joint joint context body_a body_b).mass_mark ≡ FellBack
-    → mass_of (prepare_joint joint context body_a body_b).joint.union_ ≡ some mat3_zero
+    → (prepare_joint joint context body_a body_b).mass_mark ≡ Some FellBack
+    → mass_of (prepare_joint joint context body_a body_b).joint.union_ ≡ Some mat3_zero
 
 -- A refusal by value has none in all, also where the joint is of another kind than the one called.
 pub record RefusedSolve (joint : JointSim) (context : StepContext) (a b : BodyState) (use_bias : Bool) : Type 0 where

@@ -1,9 +1,11 @@
 // The bodies that a joint names by its two indices, and the tests of these.
 ghost use Rattle.std.specs.Prelude.{◌≡◌};
+ghost use Rattle.records.specs.Refusal.{tested};
 ghost use Rattle.joint.specs.Index as D;
 
 use records::NULL_INDEX;
 use records::joint::JointUnion;
+use records::refusal::Cause;
 
 // The two body indices of a joint.
 #[derive(Clone, Copy)]
@@ -49,16 +51,16 @@ pub fn bad_index(body_count: usize, index: i32) -> bool
     body_count <= index as usize
 }
 
-// 2 where the first index is bad, else 3 where the second is, else 0.
-pub fn index_cause(body_count: usize, union_: JointUnion) -> u32
-    ensures { result ≡ D.index_cause body_count union_ }
+// The tests of a joint's two indices, the first before the second.
+pub fn check_indices(body_count: usize, union_: JointUnion) -> Result<(), Cause>
+    ensures { tested result ≡ D.index_cause body_count union_ }
 {
     let i = indices_of(union_);
     if bad_index(body_count, i.a) {
-        return 2;
+        return Err(Cause::FirstIndex);
     }
     if bad_index(body_count, i.b) {
-        return 3;
+        return Err(Cause::SecondIndex);
     }
-    0
+    Ok(())
 }

@@ -1,11 +1,12 @@
 // Prepare of a joint of any kind.
 ghost use Rattle.std.specs.Prelude.{◌≡◌};
+ghost use Rattle.constraint.specs.Answer.{prepare_answer};
 ghost use Rattle.joint.specs.Prepare as D;
 
-use constraint::answer::{Prepared, WRONG_KIND};
-use math_functions::mark::Mark;
+use constraint::answer::Prepared;
 use records::body::BodyRecord;
 use records::joint::{JointSim, JointUnion};
+use records::refusal::WrongKind;
 use revolute::prepare_revolute_joint;
 use solver::StepContext;
 use spherical::prepare_spherical_joint;
@@ -18,19 +19,14 @@ pub fn prepare_joint(
     context: StepContext,
     body_a: BodyRecord,
     body_b: BodyRecord,
-) -> Prepared
-    ensures { result ≡ D.prepare_joint joint context body_a body_b }
+) -> Result<Prepared, WrongKind>
+    ensures { prepare_answer joint result ≡ D.prepare_joint joint context body_a body_b }
 {
     let u = joint.union_;
     match u {
         JointUnion::Revolute(_) => prepare_revolute_joint(joint, context, body_a, body_b),
         JointUnion::Spherical(_) => prepare_spherical_joint(joint, context, body_a, body_b),
         JointUnion::Weld(_) => prepare_weld_joint(joint, context, body_a, body_b),
-        JointUnion::Other => Prepared {
-            number: WRONG_KIND,
-            place: 0,
-            joint,
-            mass_mark: Mark::None,
-        },
+        JointUnion::Other => Err(WrongKind),
     }
 }

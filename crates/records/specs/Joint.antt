@@ -1,6 +1,5 @@
 -- Which case a joint is, the two angles of its limits, a joint after a solve, and a joint that is not in use. Definitions only. Assumes nothing.
-use Rattle.std.specs.Prelude.{◌≡◌, Bool, true, false, ℕ, Float, Result, Ok, Err}
-use Rattle.std.proofs.Math.Option.{Option, none, some}
+use Rattle.std.specs.Prelude.{◌≡◌, Bool, true, false, ℕ, Float, Result, Ok, Err, Option, None, Some}
 use Rattle.std.specs.Float.{nan}
 use Rattle.records.specs.declared.joint.RevoluteJoint.{RevoluteJoint}
 use Rattle.records.specs.declared.joint.SphericalJoint.{SphericalJoint}
@@ -22,36 +21,36 @@ case_of Other = 3
 
 -- the record of a kind, where the joint is of that kind (the Rust panics where it is not)
 abbrev pub as_revolute : JointUnion → Option RevoluteJoint
-as_revolute (Revolute r) = some r
-as_revolute (Spherical r) = none
-as_revolute (Weld r) = none
-as_revolute Other = none
+as_revolute (Revolute r) = Some r
+as_revolute (Spherical r) = None
+as_revolute (Weld r) = None
+as_revolute Other = None
 
 abbrev pub as_spherical : JointUnion → Option SphericalJoint
-as_spherical (Revolute r) = none
-as_spherical (Spherical r) = some r
-as_spherical (Weld r) = none
-as_spherical Other = none
+as_spherical (Revolute r) = None
+as_spherical (Spherical r) = Some r
+as_spherical (Weld r) = None
+as_spherical Other = None
 
 abbrev pub as_weld : JointUnion → Option WeldJoint
-as_weld (Revolute r) = none
-as_weld (Spherical r) = none
-as_weld (Weld r) = some r
-as_weld Other = none
+as_weld (Revolute r) = None
+as_weld (Spherical r) = None
+as_weld (Weld r) = Some r
+as_weld Other = None
 
 -- what is done with the record of a kind, and what is answered where the joint is of another
 abbrev pub of_kind : {K A : Type 0} → Option K → A → (K → A) → A
-of_kind none other done = other
-of_kind (some joint) other done = done joint
+of_kind None other done = other
+of_kind (Some joint) other done = done joint
 
 -- what a joint's case is opened as: the record of the kind, or a refusal where the case is another
 abbrev pub Opened : {K : Type 0} → Option K → Result K WrongKind → Type 0
-Opened found (Ok joint) = found ≡ some joint
-Opened found (Err w) = found ≡ none
+Opened found (Ok joint) = found ≡ Some joint
+Opened found (Err w) = found ≡ None
 
 abbrev pub is_some : {K : Type 0} → Option K → Bool
-is_some none = false
-is_some (some r) = true
+is_some None = false
+is_some (Some r) = true
 
 -- is the joint of that kind?
 abbrev pub is_revolute : JointUnion → Bool

@@ -1,5 +1,5 @@
 -- Document 01's numbers of the causes for which a call is refused. Definitions only. Assumes nothing.
-use Rattle.std.specs.Prelude.{◌≡◌, ℕ}
+use Rattle.std.specs.Prelude.{◌≡◌, ℕ, Result, Ok, Err, ⊤}
 use Rattle.records.specs.declared.refusal.WrongKind.{WrongKind}
 use Rattle.records.specs.declared.refusal.Cause.{Cause}
 use Rattle.records.specs.declared.refusal.Cause.TheVariants.{Kind, FirstIndex, SecondIndex, Slot, Stage, Count, Length}
@@ -15,6 +15,11 @@ number_of Slot = 4
 number_of Stage = 5
 number_of Count = 6
 number_of Length = 7
+
+-- of what is tested: 0 where no cause holds
+abbrev pub tested : Result ⊤ Cause → ℕ
+tested (Ok u) = 0
+tested (Err cause) = number_of cause
 
 abbrev pub refusal : Cause → ℕ → Refusal
 refusal cause place = record { cause = cause; place = place }

@@ -1,6 +1,6 @@
 -- Document 01's stop code, from the joint alone, with what C-11 adds: a stop counts only where the part has also arrived there. Definitions only.
 -- Assumes nothing.
-use Rattle.std.specs.Prelude.{Bool, false, cond, ◌&&◌, ℕ, ◌+◌, Float}
+use Rattle.std.specs.Prelude.{Bool, false, cond, ◌&&◌, ℕ, ◌+◌, Float, Result, Ok, Err}
 use Rattle.math_functions.specs.Float.{gt, le, ge, zero}
 use Rattle.records.specs.declared.joint.LimitAngles.{LimitAngles}
 use Rattle.records.specs.declared.joint.JointSim.{JointSim}
@@ -8,7 +8,7 @@ use Rattle.records.specs.declared.joint.JointUnion.{JointUnion}
 use Rattle.records.specs.declared.joint.JointUnion.TheVariants.{Revolute, Spherical, Weld, Other}
 use Rattle.records.specs.declared.joint.RevoluteJoint.{RevoluteJoint}
 use Rattle.records.specs.declared.joint.SphericalJoint.{SphericalJoint}
-use Rattle.stop_code.specs.declared.StopCode.{StopCode}
+use Rattle.records.specs.declared.refusal.WrongKind.{WrongKind}
 
 -- a limit that is off counts nothing
 unfoldable pub is_pushing : Bool → Float → Bool
@@ -40,15 +40,30 @@ spherical_stops j angles =
     (is_at_upper j.enable_twist_limit j.upper_twist_impulse j.upper_twist_angle angles.twist)
     (is_at_upper j.enable_cone_limit j.swing_impulse j.cone_angle angles.swing)
 
+-- number, place and code
+pub record StopCode : Type 0 where
+  pub number : ℕ
+  pub place : ℕ
+  pub code : ℕ
+
 abbrev pub found : ℕ → StopCode
 found code = record { number = 0; place = 0; code = code }
+
+-- 'the stop code refuses only with 1, place 0', and 'a refusal gives 0'
+abbrev pub refused : StopCode
+refused = record { number = 1; place = 0; code = 0 }
+
+-- that answer of what the code returns
+abbrev pub answer_of : Result ℕ WrongKind → StopCode
+answer_of (Ok code) = found code
+answer_of (Err w) = refused
 
 -- fixed rotation, weld and a refusal give 0
 unfoldable pub stops_of : JointUnion → Bool → LimitAngles → StopCode
 stops_of (Revolute j) fixed_rotation angles = cond fixed_rotation (found 0) (found (revolute_stops j angles))
 stops_of (Spherical j) fixed_rotation angles = cond fixed_rotation (found 0) (found (spherical_stops j angles))
 stops_of (Weld j) fixed_rotation angles = found 0
-stops_of Other fixed_rotation angles = record { number = 1; place = 0; code = 0 }
+stops_of Other fixed_rotation angles = refused
 
 unfoldable pub stop_code : JointSim → StopCode
 stop_code joint = stops_of joint.union_ joint.base.fixed_rotation joint.angles

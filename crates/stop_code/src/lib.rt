@@ -4,15 +4,8 @@
 ghost use Rattle.std.specs.Prelude.{◌≡◌};
 ghost use Rattle.stop_code.specs.StopCode as D;
 
-use constraint::answer::WRONG_KIND;
 use records::joint::{JointSim, JointUnion, LimitAngles, RevoluteJoint, SphericalJoint};
-
-#[derive(Clone, Copy)]
-pub struct StopCode {
-    pub number: u32,
-    pub place: u32,
-    pub code: u32,
-}
+use records::refusal::WrongKind;
 
 // Whether a limit that is on pushes.
 #[tactic(auto, unfolding(crate::specs::StopCode::is_pushing))]
@@ -76,46 +69,32 @@ fn spherical_stops(j: SphericalJoint, angles: LimitAngles) -> u32
     sum_stops(lower, upper, cone)
 }
 
-fn found(code: u32) -> StopCode
-    ensures { result ≡ D.found code }
-{
-    StopCode {
-        number: 0,
-        place: 0,
-        code,
-    }
-}
-
 // The code of a joint's case; the empty case is refused.
 #[tactic(auto, unfolding(crate::specs::StopCode::stops_of))]
-fn stops_of(union_: JointUnion, fixed_rotation: bool, angles: LimitAngles) -> StopCode
-    ensures { result ≡ D.stops_of union_ fixed_rotation angles }
+fn stops_of(union_: JointUnion, fixed_rotation: bool, angles: LimitAngles) -> Result<u32, WrongKind>
+    ensures { D.answer_of result ≡ D.stops_of union_ fixed_rotation angles }
 {
     match union_ {
         JointUnion::Revolute(j) => {
             if fixed_rotation {
-                return found(0);
+                return Ok(0);
             }
-            found(revolute_stops(j, angles))
+            Ok(revolute_stops(j, angles))
         }
         JointUnion::Spherical(j) => {
             if fixed_rotation {
-                return found(0);
+                return Ok(0);
             }
-            found(spherical_stops(j, angles))
+            Ok(spherical_stops(j, angles))
         }
-        JointUnion::Weld(_) => found(0),
-        JointUnion::Other => StopCode {
-            number: WRONG_KIND,
-            place: 0,
-            code: 0,
-        },
+        JointUnion::Weld(_) => Ok(0),
+        JointUnion::Other => Err(WrongKind),
     }
 }
 
 #[tactic(auto, unfolding(crate::specs::StopCode::stop_code))]
-pub fn stop_code(joint: JointSim) -> StopCode
-    ensures { result ≡ D.stop_code joint }
+pub fn stop_code(joint: JointSim) -> Result<u32, WrongKind>
+    ensures { D.answer_of result ≡ D.stop_code joint }
 {
     let union_ = joint.union_;
     stops_of(union_, joint.base.fixed_rotation, joint.angles)
