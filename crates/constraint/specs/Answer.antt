@@ -1,5 +1,5 @@
 -- The answers of the stages: number 0 with what was done, or number 1 with nothing altered. Place is 0. Definitions only. Assumes nothing.
-use Rattle.std.specs.Prelude.{ℕ, Option, Result, Ok, Err}
+use Rattle.std.specs.Prelude.{ℕ, Option, Some, None, Result, Ok, Err}
 use Rattle.math_functions.specs.declared.mark.Mark.{Mark}
 use Rattle.math_functions.specs.Mark.{no_mark}
 use Rattle.records.specs.declared.body.BodyState.{BodyState}
@@ -61,17 +61,20 @@ solved joint velocities r = record { number = 0; place = 0; joint = joint; veloc
 abbrev pub not_solved : JointSim → BodyState → BodyState → SolvedAnswer
 not_solved joint state_a state_b = record { number = 1; place = 0; joint = joint; velocities = velocities_of state_a state_b; report = no_report }
 
--- ---- those answers of what the code returns: 'when an answer is an enum, a definition gives this paper's number and values for each case of that enum'. The
--- joint and the states are those that the stage was called with
+-- ---- those answers of what the code returns: 'when an answer is an enum, a definition gives this paper's number and values for each case of that enum'
 
-abbrev pub prepare_answer : JointSim → Result Prepared WrongKind → PreparedAnswer
-prepare_answer joint (Ok p) = prepared p.joint p.mass_mark
-prepare_answer joint (Err w) = not_prepared joint
+-- 1 is 'joint's case is not the kind called, or not one of the three'
+abbrev pub number_of : Option WrongKind → ℕ
+number_of None = 0
+number_of (Some w) = 1
 
+abbrev pub prepare_answer : Prepared → PreparedAnswer
+prepare_answer r = record { number = number_of r.refused; place = 0; joint = r.joint; mass_mark = r.mass_mark }
+
+abbrev pub solve_answer : Solved → SolvedAnswer
+solve_answer r = record { number = number_of r.refused; place = 0; joint = r.joint; velocities = r.velocities; report = r.report }
+
+-- a warm start that is refused leaves the joint and the states that it was called with
 abbrev pub warm_start_answer : JointSim → BodyState → BodyState → Result WarmStarted WrongKind → WarmStartedAnswer
-warm_start_answer joint state_a state_b (Ok w) = warm_started w.joint w.velocities
+warm_start_answer joint state_a state_b (Ok r) = warm_started r.joint r.velocities
 warm_start_answer joint state_a state_b (Err w) = not_warm_started joint state_a state_b
-
-abbrev pub solve_answer : JointSim → BodyState → BodyState → Result Solved WrongKind → SolvedAnswer
-solve_answer joint state_a state_b (Ok s) = solved s.joint s.velocities s.report
-solve_answer joint state_a state_b (Err w) = not_solved joint state_a state_b

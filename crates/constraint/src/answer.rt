@@ -1,14 +1,24 @@
-// What the stages answer where the joint is of their kind: what the stage leaves. A joint of another case
-// is refused (`records::refusal::WrongKind`).
-use crate::velocity::Velocities;
+// What the stages by value answer. A joint whose case is not the kind called is refused: it comes back as
+// it was, with the velocities as they were, and nothing is reported.
+//
+// Prepare and solve answer the joint in both cases, and the refusal last: a `Result` of so large a record
+// is copied once more, which is up to 10 in a hundred more instructions (docs/PERFORMANCE.md), and a byte
+// before the joint costs a copy too.
+ghost use Rattle.std.specs.Prelude.{◌≡◌};
+ghost use Rattle.constraint.specs.Answer as D;
+
+use crate::velocity::{Velocities, velocities_of};
 use math_functions::mark::Mark;
+use records::body::BodyState;
 use records::joint::JointSim;
+use records::refusal::WrongKind;
 
 // `mass_mark` is that of spherical's rotation mass and of weld's angular mass, where it is inverted.
 #[derive(Clone, Copy)]
 pub struct Prepared {
     pub joint: JointSim,
     pub mass_mark: Option<Mark>,
+    pub refused: Option<WrongKind>,
 }
 
 #[derive(Clone, Copy)]
@@ -35,4 +45,28 @@ pub struct Solved {
     pub joint: JointSim,
     pub velocities: Velocities,
     pub report: Report,
+    pub refused: Option<WrongKind>,
+}
+
+// What prepare answers of a joint that it refuses.
+pub fn prepare_refused(joint: JointSim) -> Prepared
+    ensures { D.prepare_answer result ≡ D.not_prepared joint }
+{
+    Prepared {
+        joint,
+        mass_mark: None,
+        refused: Some(WrongKind),
+    }
+}
+
+// What a solve answers of a joint that it refuses.
+pub fn solve_refused(joint: JointSim, state_a: BodyState, state_b: BodyState) -> Solved
+    ensures { D.solve_answer result ≡ D.not_solved joint state_a state_b }
+{
+    Solved {
+        joint,
+        velocities: velocities_of(state_a, state_b),
+        report: NO_REPORT,
+        refused: Some(WrongKind),
+    }
 }

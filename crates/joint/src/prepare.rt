@@ -3,10 +3,9 @@ ghost use Rattle.std.specs.Prelude.{◌≡◌};
 ghost use Rattle.constraint.specs.Answer.{prepare_answer};
 ghost use Rattle.joint.specs.Prepare as D;
 
-use constraint::answer::Prepared;
+use constraint::answer::{Prepared, prepare_refused};
 use records::body::BodyRecord;
 use records::joint::{JointSim, JointUnion};
-use records::refusal::WrongKind;
 use revolute::prepare_revolute_joint;
 use solver::StepContext;
 use spherical::prepare_spherical_joint;
@@ -19,14 +18,14 @@ pub fn prepare_joint(
     context: StepContext,
     body_a: BodyRecord,
     body_b: BodyRecord,
-) -> Result<Prepared, WrongKind>
-    ensures { prepare_answer joint result ≡ D.prepare_joint joint context body_a body_b }
+) -> Prepared
+    ensures { prepare_answer result ≡ D.prepare_joint joint context body_a body_b }
 {
     let u = joint.union_;
     match u {
         JointUnion::Revolute(_) => prepare_revolute_joint(joint, context, body_a, body_b),
         JointUnion::Spherical(_) => prepare_spherical_joint(joint, context, body_a, body_b),
         JointUnion::Weld(_) => prepare_weld_joint(joint, context, body_a, body_b),
-        JointUnion::Other => Err(WrongKind),
+        JointUnion::Other => prepare_refused(joint),
     }
 }

@@ -9,7 +9,7 @@ ghost use Rattle.spherical.specs.Spherical as D;
 use crate::prepare::prepare_spherical;
 use crate::solve::solve_spherical;
 use crate::warm_start::warm_start_spherical;
-use constraint::answer::{Prepared, Solved, WarmStarted};
+use constraint::answer::{Prepared, Solved, WarmStarted, prepare_refused, solve_refused};
 use math_functions::transform::sub_pos;
 use records::body::{BodyRecord, BodyState};
 use records::joint::{JointSim, SphericalJoint, joint_sim, no_angles};
@@ -28,10 +28,12 @@ pub fn prepare_spherical_joint(
     context: StepContext,
     body_a: BodyRecord,
     body_b: BodyRecord,
-) -> Result<Prepared, WrongKind>
-    ensures { prepare_answer joint result ≡ D.prepare_spherical_joint joint context body_a body_b }
+) -> Prepared
+    ensures { prepare_answer result ≡ D.prepare_spherical_joint joint context body_a body_b }
 {
-    let k = SphericalJoint::try_from(joint.union_)?;
+    let Ok(k) = SphericalJoint::try_from(joint.union_) else {
+        return prepare_refused(joint);
+    };
     let delta_center = sub_pos(body_b.center, body_a.center);
     let p = prepare_spherical(
         joint.base,
@@ -42,10 +44,11 @@ pub fn prepare_spherical_joint(
         body_a,
         body_b,
     );
-    Ok(Prepared {
+    Prepared {
         joint: joint_sim(p.base, p.joint.into(), no_angles()),
         mass_mark: p.mass_mark,
-    })
+        refused: None,
+    }
 }
 
 // Warm start; the joint comes back as it was, and one of another kind is refused.
@@ -70,10 +73,12 @@ pub fn solve_spherical_joint(
     state_a: BodyState,
     state_b: BodyState,
     use_bias: bool,
-) -> Result<Solved, WrongKind>
-    ensures { solve_answer joint state_a state_b result ≡ D.solve_spherical_joint joint context state_a state_b use_bias }
+) -> Solved
+    ensures { solve_answer result ≡ D.solve_spherical_joint joint context state_a state_b use_bias }
 {
-    let k = SphericalJoint::try_from(joint.union_)?;
+    let Ok(k) = SphericalJoint::try_from(joint.union_) else {
+        return solve_refused(joint, state_a, state_b);
+    };
     let s = solve_spherical(
         joint.base,
         k,
@@ -83,9 +88,10 @@ pub fn solve_spherical_joint(
         state_b,
         use_bias,
     );
-    Ok(Solved {
+    Solved {
         joint: joint_sim(joint.base, s.joint.into(), s.angles),
         velocities: s.velocities,
         report: s.report,
-    })
+        refused: None,
+    }
 }
