@@ -67,9 +67,9 @@ range m (suc (suc p)) h lo hi = omega arith
 pub scaled_range : (m e n : ℕ) → 2 ^ 23 ≤ m → m < 2 ^ 24 → n ≡ m * 2 ^ (23 + e % 2) → (2 ^ 46 ≤ n) × (n ≤ 2 ^ 48 - 2 ^ 24)
 scaled_range m e n lo hi is = let x = range m (e % 2) (omega arith) lo hi in (omega arith, omega arith)
 
-pub root_bits_is : (b m e n r : ℕ) → 0 < b → b < 0x7f80_0000 → Unpacks b m e → n ≡ m * 2 ^ (23 + e % 2) → NearestRoot n r
-    → (of_bits binary32 ((e + 102) / 2 * 2 ^ 23 + r) ≡ sqrt (of_bits binary32 b)) × ((e + 102) / 2 * 2 ^ 23 + r < 0x7f80_0000)
-root_bits_is b m e n r pos fin sp is near =
-    let x = scaled_range m e n sp.least sp.most is in
+pub root_bits_is : (b m x n r : ℕ) → 0 < b → b < 0x7f80_0000 → 102 ≤ x → Unpacks b m (x - 102) → n ≡ m * 2 ^ (23 + x % 2) → NearestRoot n r
+    → (of_bits binary32 (x / 2 * 2 ^ 23 + r) ≡ sqrt (of_bits binary32 b)) × (x / 2 * 2 ^ 23 + r < 0x7f80_0000)
+root_bits_is b m x n r pos fin lo sp is near =
+    let y = scaled_range m x n sp.least sp.most is in
     let d = sp.exponent in
-    root_bits_at b m e n r (23 + e % 2) ((e + 102) / 2) pos fin sp is (omega arith) x.0 x.1 (omega arith) near
+    root_bits_at b m (x - 102) n r (23 + x % 2) (x / 2) pos fin sp is (omega arith) y.0 y.1 (omega arith) near

@@ -1,34 +1,29 @@
 -- `sqrt` where no root is taken, from the float's bits: at a NaN, at the zeros, at the infinities and below zero. Assumes nothing.
-use Rattle.std.proofs.Common.{◌≡◌, ℕ, zero, suc, ◌+◌, ◌-◌, ◌*◌, ◌/◌, ◌^◌, ◌<◌, ◌≤◌, Bool, true, false, T, ℤ, sym, refl, ap, ◌∙◌, subst, lt_irrefl}
+use Rattle.std.proofs.Common.{◌≡◌, ℕ, zero, suc, ◌⊎◌, inl, inr, ◌+◌, ◌-◌, ◌*◌, ◌/◌, ◌^◌, ◌<◌, ◌≤◌, Bool, true, false, T, ℤ, sym, refl, ap, ◌∙◌, lt_irrefl}
 use Rattle.std.proofs.Common.{arith, pow_pos}
-use lib.Ieee.{Float, nan, inf, fin, binary32, size, of_bits, to_bits, fits, ne, div}
+use lib.Ieee.{Float, nan, inf, fin, binary32, size, of_bits, to_bits, fits, is_nan}
 use lib.Ieee.Bits.{of_bits-to_bits}
-use lib.Ieee.Compare.{differs_from_itself}
 use lib.Ieee.Digits.{size-le}
 use lib.Ieee.Fits.{kept-lt}
 use Rattle.sqrt.specs.Sqrt.{sqrt}
 use Rattle.sqrt.specs.Nearest.{in_units}
 use Rattle.sqrt.proofs.Units.{zero_units, pattern_of, to_bits_units, units_lt}
+use Rattle.sqrt.proofs.Nans.{a_nan}
 use Rattle.sqrt.proofs.Special.{sqrt_nan}
 
-pub at_nan : (x : Float) → ne x x ≡ true → x ≡ sqrt x
-at_nan x h = let e = differs_from_itself x (subst T (sym h) tt) in e ∙ sym (ap sqrt e ∙ sqrt_nan)
+pub at_nan : (x : Float) → is_nan x ≡ true → x ≡ sqrt x
+at_nan x h = let e = a_nan x h in e ∙ sym (ap sqrt e ∙ sqrt_nan)
 
--- ---- the zeros and the infinity are their own roots
+-- ---- the zeros and +infinity are their own roots
 own_root : (x : Float) (b : ℕ) → T (fits binary32 x) → to_bits binary32 x ≡ b → of_bits binary32 b ≡ sqrt (of_bits binary32 b) → x ≡ sqrt x
 own_root x b F e h = let r : x ≡ of_bits binary32 b = sym (of_bits-to_bits binary32 x F) ∙ ap (of_bits binary32) e in r ∙ h ∙ ap sqrt (sym r)
 
-pub at_zero : (x : Float) → T (fits binary32 x) → to_bits binary32 x ≡ 0 → x ≡ sqrt x
+pub at_own_root : (x : Float) → T (fits binary32 x) → (to_bits binary32 x ≡ 0) ⊎ ((to_bits binary32 x ≡ 0x7f80_0000) ⊎ (to_bits binary32 x ≡ 0x8000_0000))
+    → x ≡ sqrt x
 unfolding sqrt of_bits
-at_zero x F e = own_root x 0 F e refl
-
-pub at_minus_zero : (x : Float) → T (fits binary32 x) → to_bits binary32 x ≡ 0x8000_0000 → x ≡ sqrt x
-unfolding sqrt of_bits
-at_minus_zero x F e = own_root x 0x8000_0000 F e refl
-
-pub at_infinity : (x : Float) → T (fits binary32 x) → to_bits binary32 x ≡ 0x7f80_0000 → x ≡ sqrt x
-unfolding sqrt of_bits
-at_infinity x F e = own_root x 0x7f80_0000 F e refl
+at_own_root x F (inl e) = own_root x 0 F e refl
+at_own_root x F (inr (inl e)) = own_root x 0x7f80_0000 F e refl
+at_own_root x F (inr (inr e)) = own_root x 0x8000_0000 F e refl
 
 -- ---- any other pattern above the infinity's is a NaN's or has the sign
 pattern_zero : (s : Bool) (e : ℤ) → to_bits binary32 (fin s 0 e) ≡ pattern_of s 0
@@ -57,10 +52,7 @@ nan_above (fin false (suc m) e) F l n =
     let x = fin false (suc m) e in
     absurd (not_above (to_bits binary32 x) (pattern_of false (in_units x)) (to_bits_units false (suc m) e) (pattern_lt (in_units x) (units_lt false m e F)) l)
 
-zero_by_zero : div binary32 (of_bits binary32 0) (of_bits binary32 0) ≡ nan
-unfolding div of_bits
-zero_by_zero = refl
-
 pub at_negative : (x : Float) → T (fits binary32 x) → 0x7f80_0000 < to_bits binary32 x → (to_bits binary32 x ≡ 0x8000_0000 → ⊥)
-    → div binary32 (of_bits binary32 0) (of_bits binary32 0) ≡ sqrt x
-at_negative x F l n = zero_by_zero ∙ sym (nan_above x F l n)
+    → of_bits binary32 0x7fc0_0000 ≡ sqrt x
+unfolding of_bits
+at_negative x F l n = sym (nan_above x F l n)

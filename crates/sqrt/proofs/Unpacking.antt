@@ -1,28 +1,50 @@
--- Unpacking a pattern: a normal number's fields, and shifting a subnormal number's digits up. Assumes nothing.
-use Rattle.std.proofs.Common.{◌≡◌, ℕ, zero, suc, ◌+◌, ◌-◌, ◌*◌, ◌/◌, ◌%◌, ◌^◌, ◌<◌, ◌≤◌, sym, ap, ◌∙◌, mul_assoc, mul-one, arith, pow-add}
-use native.Mathlib.Nat.{pow-succ'}
+-- Unpacking a pattern: a normal number's fields, and a subnormal number's digits shifted up. Assumes nothing.
+use Rattle.std.proofs.Common.{◌≡◌, ℕ, zero, suc, ◌+◌, ◌-◌, ◌*◌, ◌/◌, ◌%◌, ◌^◌, ◌<◌, ◌≤◌, sym, ap, ◌∙◌, subst, mul_assoc, mul_comm, arith, pow-add}
+use Rattle.std.proofs.Common.{pow_pos, pow_mono, lit<, lit≤, le_trans, le_of_eq, lt_trans, lt_of_lt_of_le, lt_of_not-le, lt_irrefl}
+use Rattle.std.proofs.Common.{mul-le-mul_right, mul-lt-mul_of_pos_right, mod-eq_of_lt}
 use Rattle.sqrt.specs.Steps.{Unpacks}
 use Rattle.sqrt.proofs.Patterns.{units_in, bits_units}
 
--- e has not run out while m is short of 24 digits
-pub some_left : (m t e : ℕ) → 0 < t → m < 2 ^ 23 → m * 2 ^ e ≡ t * 2 ^ 24 → 1 ≤ e
-some_left m t zero p h v = omega (arith, sym (mul-one m) ∙ v)
-some_left m t (suc e) p h v = omega arith
+-- a number below 2 ^ 23 has at most 23 digits
+pub few_digits : (b l : ℕ) → b < 2 ^ 23 → 2 ^ l ≤ b → l + 1 ≤ 24
+few_digits b l h lo =
+    let few : l < 24 = lt_of_not-le (λ (g : 24 ≤ l). lt_irrefl (2 ^ 24) (omega (arith, pow_mono {i = 24} {j = l} g, h, lo))) in
+    omega arith
 
--- one place up
-pub shifted : (m e : ℕ) → 1 ≤ e → m * 2 * 2 ^ (e - 1) ≡ m * 2 ^ e
-shifted m zero h = omega arith
-shifted m (suc e) h = ap (λ (x : ℕ). m * 2 * 2 ^ x) (pred e) ∙ mul_assoc m 2 (2 ^ e) ∙ ap (λ (x : ℕ). m * x) (sym (pow-succ' 2 e))
+-- the digits of a subnormal number, shifted up until they are 24
+pub subnormal_unpacks : (b l m : ℕ) → b < 2 ^ 23 → 2 ^ l ≤ b → b < 2 * 2 ^ l → m ≡ b * 2 ^ (24 - (l + 1)) % 2 ^ 32 → Unpacks b m (l + 1)
+subnormal_unpacks b l m h lo hi is =
+    let few : l + 1 ≤ 24 = few_digits b l h lo in
+    let p : ℕ = 2 ^ (24 - (l + 1)) in
+    let twice : 2 ^ (l + 1) ≡ 2 * 2 ^ l = pow-add 2 l 1 ∙ mul_comm (2 ^ l) 2 in
+    let whole : 2 ^ (l + 1) * p ≡ 2 ^ 24 = sym (pow-add 2 (l + 1) (24 - (l + 1))) ∙ ap (λ (x : ℕ). 2 ^ x) (places l few) in
+    let least : 2 ^ 23 ≤ b * p = half (2 ^ l * p) (b * p) (sym (mul_assoc 2 (2 ^ l) p) ∙ ap (λ (x : ℕ). x * p) (sym twice) ∙ whole) (mul-le-mul_right p lo) in
+    let most : b * p < 2 ^ 24 =
+    lt_of_lt_of_le (mul-lt-mul_of_pos_right hi (pow_pos (24 - (l + 1)))) (le_of_eq (ap (λ (x : ℕ). x * p) (sym twice) ∙ whole)) in
+    let same : m ≡ b * p = is ∙ mod-eq_of_lt (lt_trans most (lit< tt)) in
+    let units = bits_units b (below b h) ∙ ap (λ (x : ℕ). units_in x (b % 2 ^ 23)) (field b h) ∙ mod-eq_of_lt h in
+    record {
+      least = subst (λ (x : ℕ). 2 ^ 23 ≤ x) (sym same) least;
+      most = subst (λ (x : ℕ). x < 2 ^ 24) (sym same) most;
+      exponent = le_trans few (lit≤ tt);
+      value =
+          ap (λ (x : ℕ). x * 2 ^ (l + 1)) same
+          ∙ mul_assoc b p (2 ^ (l + 1))
+          ∙ ap (λ (x : ℕ). b * x) (mul_comm p (2 ^ (l + 1)) ∙ whole)
+          ∙ ap (λ (x : ℕ). x * 2 ^ 24) (sym units);
+    }
   where
-    pred : (e : ℕ) → suc e - 1 ≡ e
-    pred e = omega arith
+    places : (l : ℕ) → l + 1 ≤ 24 → l + 1 + (24 - (l + 1)) ≡ 24
+    places l h = omega arith
 
-pub subnormal_unpacks : (b m e : ℕ) → b < 2 ^ 23 → 2 ^ 23 ≤ m → m < 2 ^ 24 → e ≤ 24 → m * 2 ^ e ≡ b * 2 ^ 24 → Unpacks b m e
-subnormal_unpacks b m e h lo hi few v =
-    let field : b / 2 ^ 23 ≡ 0 = omega arith in
-    let all : b % 2 ^ 23 ≡ b = omega arith in
-    let units = bits_units b (omega arith) ∙ ap (λ (x : ℕ). units_in x (b % 2 ^ 23)) field ∙ all in
-    record { least = lo; most = hi; exponent = omega arith; value = v ∙ ap (λ (x : ℕ). x * 2 ^ 24) (sym units) }
+    half : (x y : ℕ) → 2 * x ≡ 2 ^ 24 → x ≤ y → 2 ^ 23 ≤ y
+    half x y e h = omega arith
+
+    below : (b : ℕ) → b < 2 ^ 23 → b < 0x7f80_0000
+    below b h = omega arith
+
+    field : (b : ℕ) → b < 2 ^ 23 → b / 2 ^ 23 ≡ 0
+    field b h = omega arith
 
 -- the digits of a normal number, with the leading one
 normal_value : (x t : ℕ) → 0 < x → (2 ^ 23 + t) * 2 ^ (x + 23) ≡ units_in x t * 2 ^ 24

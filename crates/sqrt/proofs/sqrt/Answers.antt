@@ -1,39 +1,28 @@
--- `sqrt::sqrt` meets its contract (`SpecialBits.antt`, and what `normal_root` and `subnormal_root` ensure). Assumes nothing.
-use Rattle.std.proofs.Common.{T, sym, ap, ◌∙◌, subst, arith}
-use Rattle.std.specs.Float.{binary32}
+-- `sqrt::sqrt` meets its contract (`SpecialBits.antt`, and what `Unpacked::root` ensures). Assumes nothing.
+use Rattle.std.proofs.Common.{ℕ, T, sym, ap, ◌∙◌, subst, arith}
+use lib.Ieee.{binary32, of_bits}
 use lib.Ieee.Bits.{of_bits-to_bits}
 use Rattle.sqrt.specs.Sqrt.{sqrt}
-use Rattle.sqrt.proofs.Nans.{same_no_nan, finite_no_nan}
-use Rattle.sqrt.proofs.SpecialBits.{at_nan, at_zero, at_minus_zero, at_infinity, at_negative}
+use Rattle.sqrt.proofs.SpecialBits.{at_nan, at_own_root, at_negative}
 use Rattle.sqrt.proofs.sqrt.Goals as goal
 
-pub returns-then-x : goal.returns-then-x
-returns-then-x c = at_nan c.args.x c.if-x.true
+pub returns-then-is_nan : goal.returns-then-is_nan
+returns-then-is_nan c = at_nan c.args.x (sym c.is_nan.ensures.value ∙ c.if-is_nan.true)
 
-pub float_to_bits-b : goal.float_to_bits-b
-float_to_bits-b c = same_no_nan c.args.x c.if-x.false
+pub returns-in-0 : goal.returns-in-0
+returns-in-0 c = at_own_root c.args.x (subst T (sym c.well_formed.0.1) tt) c.in-0.is
 
-pub float_from_bits-result : goal.float_from_bits-result
-float_from_bits-result c = finite_no_nan binary32 c.normal_root.result c.normal_root.ensures.1
-
-pub returns-then-wrapping_sub_u32-lt-NORMALS : goal.returns-then-wrapping_sub_u32-lt-NORMALS
-returns-then-wrapping_sub_u32-lt-NORMALS c =
-    c.normal_root.ensures.0 ∙ ap sqrt (of_bits-to_bits binary32 c.args.x (subst T (sym c.well_formed.0.1) tt))
-
-pub float_from_bits-result-then-b-gt0 : goal.float_from_bits-result-then-b-gt0
-float_from_bits-result-then-b-gt0 c = finite_no_nan binary32 c.subnormal_root.result c.subnormal_root.ensures.1
-
-pub returns-then-b-gt0 : goal.returns-then-b-gt0
-returns-then-b-gt0 c = c.subnormal_root.ensures.0 ∙ ap sqrt (of_bits-to_bits binary32 c.args.x (subst T (sym c.well_formed.0.1) tt))
+pub returns-then-b-lt-LEAST_NORMAL : goal.returns-then-b-lt-LEAST_NORMAL
+returns-then-b-lt-LEAST_NORMAL c =
+    c.root-then-b-lt-LEAST_NORMAL.ensures
+    ∙ ap (λ (b : ℕ). sqrt (of_bits binary32 b)) c.subnormal.ensures
+    ∙ ap sqrt (of_bits-to_bits binary32 c.args.x (subst T (sym c.well_formed.0.1) tt))
 
 pub returns-then-b-lt-INFINITY : goal.returns-then-b-lt-INFINITY
-returns-then-b-lt-INFINITY c = at_zero c.args.x (subst T (sym c.well_formed.0.1) tt) (omega arith)
+returns-then-b-lt-INFINITY c =
+    c.root.ensures
+    ∙ ap (λ (b : ℕ). sqrt (of_bits binary32 b)) c.normal-number.ensures
+    ∙ ap sqrt (of_bits-to_bits binary32 c.args.x (subst T (sym c.well_formed.0.1) tt))
 
-pub returns-then-b-eq-INFINITY : goal.returns-then-b-eq-INFINITY
-returns-then-b-eq-INFINITY c = at_infinity c.args.x (subst T (sym c.well_formed.0.1) tt) (omega arith)
-
-pub returns-then-b : goal.returns-then-b
-returns-then-b c = at_minus_zero c.args.x (subst T (sym c.well_formed.0.1) tt) (omega arith)
-
-pub returns : goal.returns
-returns c = at_negative c.args.x (subst T (sym c.well_formed.0.1) tt) (omega arith) (omega arith)
+pub returns-in_default : goal.returns-in_default
+returns-in_default c = at_negative c.args.x (subst T (sym c.well_formed.0.1) tt) (grind arith) (grind arith)
