@@ -1,5 +1,5 @@
 -- `isqrt n` is the largest number whose square is at most n, and the only one with n from its square up to the next. Assumes nothing.
-use Rattle.std.proofs.Common.{◌≡◌, ℕ, zero, suc, ◌+◌, ◌*◌, ◌/◌, ◌^◌, ◌<◌, ◌≤◌, Bool, true, false, cond, not, T, leb, ap, ◌∙◌, subst, zero-le}
+use Rattle.std.proofs.Common.{◌≡◌, ℕ, zero, suc, ◌+◌, ◌*◌, ◌/◌, ◌^◌, ◌<◌, ◌≤◌, Bool, true, false, cond, not, T, leb, subst, zero-le}
 use Rattle.std.proofs.Common.{lt_of_lt_of_le, le_of_suc-le-suc, le-add_right, lt_of_le_of_lt, le_antisymm, arith, leb→le, pow_mono, shr_lt}
 use lib.Dec.{nleb→lt}
 use lib.Ieee.{size}
@@ -12,9 +12,6 @@ pub root_unique : RootUnique
 root_unique n r s h k =
     le_antisymm (le_of_suc-le-suc (root_lt r (suc s) (lt_of_le_of_lt h.0 k.1))) (le_of_suc-le-suc (root_lt s (suc r) (lt_of_le_of_lt k.0 h.1)))
 
-two_more : (r : ℕ) → suc (suc (2 * r)) ≡ 2 * suc r
-two_more r = omega arith
-
 step : (n r : ℕ) → Root (n / 4) r → Root n (one_more n (2 * r))
 step n r h = go (leb (suc (2 * r) * suc (2 * r)) n) (leb→le (suc (2 * r) * suc (2 * r)) n) (nleb→lt (suc (2 * r) * suc (2 * r)) n)
   where
@@ -23,7 +20,7 @@ step n r h = go (leb (suc (2 * r) * suc (2 * r)) n) (leb→le (suc (2 * r) * suc
 
     above : n < suc (suc (2 * r)) * suc (suc (2 * r))
     above =
-        let e : suc (suc (2 * r)) * suc (suc (2 * r)) ≡ 4 * (suc r * suc r) = ap (λ (x : ℕ). x * x) (two_more r) ∙ square_double (suc r) in
+        let e : suc (suc (2 * r)) * suc (suc (2 * r)) ≡ 4 * (suc r * suc r) = grind arith in
         let l = h.1 in
         omega arith
 

@@ -1,7 +1,7 @@
 -- What `nearer_of` and `root_of` choose, over whole numbers. Assumes nothing.
 use Rattle.std.proofs.Common.{◌≡◌, ℕ, zero, suc, ◌+◌, ◌-◌, ◌*◌, ◌/◌, ◌%◌, ◌^◌, ◌<◌, ◌≤◌, Bool, true, false, cond, not, T, ltb, sym, refl, ap, ◌∙◌}
 use Rattle.std.proofs.Common.{le_trans, le_of_eq, le_refl, lt_of_lt_of_le, le_of_suc-le-suc, lt_of_le_of_lt, le_of_lt, add-le-add, lt_irrefl}
-use Rattle.std.proofs.Common.{mul-le-mul_right, zero-lt-suc, mul_assoc, lt-suc_self, add-lt-add_of_le_of_lt, mul_comm, div-lt_iff_lt-mul, add-mul}
+use Rattle.std.proofs.Common.{mul-le-mul_right, zero-lt-suc, mul_assoc, lt-suc_self, add-lt-add_of_le_of_lt, mul_comm, div-lt_iff_lt-mul}
 use Rattle.std.proofs.Common.{mul-le-mul, add_comm, le_antisymm, lt_of_mul-lt-mul_right, mul-le-mul_left, mul-lt-mul_of_pos_right, pow-suc}
 use Rattle.std.proofs.Common.{lt_of_not-le, le-div_iff_mul-le, mul-one, div-mul-le_self, mul_left_comm, arith, lit<, lit≤, ltb→lt, nltb→le, pow_pos}
 use Rattle.std.proofs.Common.{pow_mono, pow-add, shl_lt}
@@ -13,7 +13,7 @@ use lib.Ieee.Digits.{back, size-lt, size-le, size_reaches}
 use lib.Ieee.Fits.{kept-lt}
 use Rattle.sqrt.specs.Sqrt.{isqrt, nearer_of, root_of}
 use Rattle.sqrt.specs.Nearest.{Nearer}
-use Rattle.sqrt.proofs.Squares.{root_lt, square_lt, square_mul, square_double, square_odd}
+use Rattle.sqrt.proofs.Squares.{root_lt, square_lt, square_mul, square_odd}
 use Rattle.sqrt.proofs.Isqrt.{isqrt_le, isqrt_lt}
 
 -- of two different numbers only one is the nearer
@@ -41,16 +41,10 @@ odd_part m n (suc a) (suc b) o p h =
 
 -- the sum of q and q + 1 times p
 middle : (q p : ℕ) → q * p + suc q * p ≡ (2 * q + 1) * p
-middle q p = sym (add-mul q (suc q) p) ∙ ap (λ (x : ℕ). x * p) (sum q)
-  where
-    sum : (q : ℕ) → q + suc q ≡ 2 * q + 1
-    sum q = omega arith
+middle q p = grind arith
 
 square_sum : (x : ℕ) → (x + x) * (x + x) ≡ 4 * (x * x)
-square_sum x = ap (λ (y : ℕ). y * y) (twice x) ∙ square_double x
-  where
-    twice : (x : ℕ) → x + x ≡ 2 * x
-    twice x = omega arith
+square_sum x = grind arith
 
 -- ---- `nearer_of` is nearer to √a than any number of 24 digits times a power of 2, where √a lies between q and q + 1 times 2 ^ k, q has 24 digits
 -- and √a is not the middle
