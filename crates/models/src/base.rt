@@ -3,8 +3,8 @@ ghost use Rattle.std.specs.Prelude.{◌≡◌};
 ghost use Rattle.models.specs.Base as D;
 
 use crate::STEP;
-use math_functions::types::{MAT3_ZERO, QUAT_IDENTITY, Quat, Transform, Vec3};
-use records::joint::{JointBase, JointType};
+use math_functions::types::{QUAT_IDENTITY, Quat, Transform, Vec3};
+use records::joint::{DEFAULT_JOINT_BASE, JointBase, JointType};
 use solver::make_soft;
 
 // A joint's frame on its first body, half way to the second.
@@ -50,29 +50,25 @@ pub const ANGULAR_IMPULSE: Vec3 = Vec3 {
 // The number of what stands fast, above those of all bodies that move.
 pub const POST: u8 = 32;
 
-// Numbers, frames and the softness of a stiff joint, all else as the default has it. Every field is
-// spelled out: a store into a field that is an enum, as type_, has no rule in the prover.
+// Numbers, frames and the softness of a stiff joint, all else as the default has it.
+#[tactic(auto, unfolding(crate::specs::Base::joint_base, crate::proofs::Literals::literals))]
 pub fn joint_base(type_: JointType, joint: u8, body_a: u8, body_b: u8) -> JointBase
     ensures { result ≡ D.joint_base type_ joint body_a body_b }
 {
     let hertz = 60.0;
     let damping_ratio = 2.0;
     JointBase {
-        joint_id: joint as i32,
-        body_id_a: body_a as i32,
-        body_id_b: body_b as i32,
+        joint_id: i32::from(joint),
+        body_id_a: i32::from(body_a),
+        body_id_b: i32::from(body_b),
         type_,
         local_frame_a: FRAME_A,
         local_frame_b: FRAME_B,
-        inv_mass_a: 0.0,
-        inv_mass_b: 0.0,
-        inv_i_a: MAT3_ZERO,
-        inv_i_b: MAT3_ZERO,
         constraint_hertz: hertz,
         constraint_damping_ratio: damping_ratio,
         constraint_softness: make_soft(hertz, damping_ratio, STEP.h),
         force_threshold: 1000.0,
         torque_threshold: 1000.0,
-        fixed_rotation: false,
+        ..DEFAULT_JOINT_BASE
     }
 }

@@ -42,12 +42,13 @@ pub fn fixed_body() -> BodyRecord
 }
 
 // A slab at an index of the awake set, with its centre at x.
+#[tactic(auto, unfolding(crate::specs::Body::slab, crate::proofs::Literals::literals))]
 pub fn slab(index: u8, x: f32) -> BodyRecord
     ensures { result ≡ D.slab index x }
 {
     BodyRecord {
         set_index: AWAKE_SET,
-        local_index: index as i32,
+        local_index: i32::from(index),
         inv_mass: 1.0,
         inv_inertia_world: SLAB,
         rotation: QUAT_IDENTITY,
@@ -57,6 +58,7 @@ pub fn slab(index: u8, x: f32) -> BodyRecord
 }
 
 // A dynamic body that moves and turns, the faster the larger `speed`.
+#[tactic(auto, unfolding(crate::specs::Body::moving, crate::proofs::Literals::literals))]
 pub fn moving(speed: f32) -> BodyState
     ensures { result ≡ D.moving speed }
 {

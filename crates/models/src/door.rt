@@ -6,34 +6,35 @@ ghost use Rattle.models.specs.Door as D;
 use crate::Model;
 use crate::base::{LINEAR_IMPULSE, POST, joint_base};
 use crate::body::{fixed_body, slab};
+use math_functions::types::Vec2;
 use records::joint::{
     DEFAULT_REVOLUTE_JOINT, JointSim, JointType, JointUnion, RevoluteJoint, joint_sim, no_angles,
 };
 
 // The hinge, with impulses that a step before has left.
+#[tactic(auto, unfolding(crate::specs::Door::hinge, crate::proofs::Literals::literals))]
 fn hinge() -> RevoluteJoint
     ensures { result ≡ D.hinge }
 {
-    let linear_impulse = LINEAR_IMPULSE;
-    let mut hinge = DEFAULT_REVOLUTE_JOINT;
-    hinge.linear_impulse = linear_impulse;
-    hinge.perp_impulse.x = 0.01;
-    hinge.perp_impulse.y = 0.02;
-    hinge.spring_impulse = 0.01;
-    hinge.motor_impulse = 0.02;
-    hinge.lower_impulse = 0.03;
-    hinge.upper_impulse = 0.01;
-    hinge.hertz = 4.0;
-    hinge.damping_ratio = 0.7;
-    hinge.max_motor_torque = 20.0;
-    hinge.motor_speed = 0.5;
-    hinge.target_angle = 0.25;
-    hinge.lower_angle = -0.125;
-    hinge.upper_angle = 0.09375;
-    hinge.enable_spring = true;
-    hinge.enable_motor = true;
-    hinge.enable_limit = true;
-    hinge
+    RevoluteJoint {
+        linear_impulse: LINEAR_IMPULSE,
+        perp_impulse: Vec2 { x: 0.01, y: 0.02 },
+        spring_impulse: 0.01,
+        motor_impulse: 0.02,
+        lower_impulse: 0.03,
+        upper_impulse: 0.01,
+        hertz: 4.0,
+        damping_ratio: 0.7,
+        max_motor_torque: 20.0,
+        motor_speed: 0.5,
+        target_angle: 0.25,
+        lower_angle: -0.125,
+        upper_angle: 0.09375,
+        enable_spring: true,
+        enable_motor: true,
+        enable_limit: true,
+        ..DEFAULT_REVOLUTE_JOINT
+    }
 }
 
 #[tactic(auto, unfolding(crate::specs::Door::hinge_joint))]

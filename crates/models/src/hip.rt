@@ -33,34 +33,31 @@ const TARGET_ROTATION: Quat = Quat {
 };
 
 // The socket, with impulses that a step before has left.
+#[tactic(auto, unfolding(crate::specs::Hip::socket, crate::proofs::Literals::literals))]
 fn socket() -> SphericalJoint
     ensures { result ≡ D.socket }
 {
-    let linear_impulse = LINEAR_IMPULSE;
-    let spring_impulse = ANGULAR_IMPULSE;
-    let motor_impulse = MOTOR_IMPULSE;
-    let motor_velocity = MOTOR_VELOCITY;
-    let target_rotation = TARGET_ROTATION;
-    let mut socket = DEFAULT_SPHERICAL_JOINT;
-    socket.linear_impulse = linear_impulse;
-    socket.spring_impulse = spring_impulse;
-    socket.motor_impulse = motor_impulse;
-    socket.lower_twist_impulse = 0.01;
-    socket.upper_twist_impulse = 0.02;
-    socket.swing_impulse = 0.03;
-    socket.hertz = 4.0;
-    socket.damping_ratio = 0.7;
-    socket.max_motor_torque = 20.0;
-    socket.motor_velocity = motor_velocity;
-    socket.lower_twist_angle = -0.125;
-    socket.upper_twist_angle = 0.09375;
-    socket.cone_angle = 0.125;
-    socket.target_rotation = target_rotation;
-    socket.enable_spring = true;
-    socket.enable_motor = true;
-    socket.enable_cone_limit = true;
-    socket.enable_twist_limit = true;
-    socket
+    SphericalJoint {
+        linear_impulse: LINEAR_IMPULSE,
+        spring_impulse: ANGULAR_IMPULSE,
+        motor_impulse: MOTOR_IMPULSE,
+        lower_twist_impulse: 0.01,
+        upper_twist_impulse: 0.02,
+        swing_impulse: 0.03,
+        hertz: 4.0,
+        damping_ratio: 0.7,
+        max_motor_torque: 20.0,
+        motor_velocity: MOTOR_VELOCITY,
+        lower_twist_angle: -0.125,
+        upper_twist_angle: 0.09375,
+        cone_angle: 0.125,
+        target_rotation: TARGET_ROTATION,
+        enable_spring: true,
+        enable_motor: true,
+        enable_cone_limit: true,
+        enable_twist_limit: true,
+        ..DEFAULT_SPHERICAL_JOINT
+    }
 }
 
 #[tactic(auto, unfolding(crate::specs::Hip::socket_joint))]
@@ -72,6 +69,7 @@ fn socket_joint(pelvis: u8, thigh: u8) -> JointSim
 }
 
 // The pelvis and the thigh are at indices of the awake set.
+#[tactic(auto, unfolding(crate::specs::Hip::hip, crate::proofs::Literals::literals))]
 pub fn hip(pelvis: u8, thigh: u8) -> Model
     ensures { result ≡ D.hip pelvis thigh }
 {

@@ -10,19 +10,19 @@ use records::joint::{
 };
 
 // The weld, with impulses that a step before has left.
+#[tactic(auto, unfolding(crate::specs::Strut::weld_record, crate::proofs::Literals::literals))]
 fn weld_record() -> WeldJoint
     ensures { result ≡ D.weld_record }
 {
-    let linear_impulse = LINEAR_IMPULSE;
-    let angular_impulse = ANGULAR_IMPULSE;
-    let mut weld = DEFAULT_WELD_JOINT;
-    weld.linear_hertz = 2.0;
-    weld.linear_damping_ratio = 0.5;
-    weld.angular_hertz = 2.0;
-    weld.angular_damping_ratio = 0.7;
-    weld.linear_impulse = linear_impulse;
-    weld.angular_impulse = angular_impulse;
-    weld
+    WeldJoint {
+        linear_hertz: 2.0,
+        linear_damping_ratio: 0.5,
+        angular_hertz: 2.0,
+        angular_damping_ratio: 0.7,
+        linear_impulse: LINEAR_IMPULSE,
+        angular_impulse: ANGULAR_IMPULSE,
+        ..DEFAULT_WELD_JOINT
+    }
 }
 
 #[tactic(auto, unfolding(crate::specs::Strut::weld_joint))]

@@ -1,9 +1,0 @@
--- `body::moving` equals its definition: each literal is the float nearest to its decimal. Assumes nothing.
-use Rattle.std.proofs.Common.{refl}
-use Rattle.std.specs.Float.Ieee as Ieee
-use Rattle.models.specs.Body.{moving}
-use Rattle.models.proofs.body.moving.Goals as goal
-
-pub returns : goal.returns
-unfolding moving Ieee.round Ieee.of_bits Ieee.neg
-returns c = refl
