@@ -11,98 +11,74 @@ use models::body::moving;
 use models::door::door;
 use models::hip::hip;
 use models::strut::strut;
-use models::{STEP, prepare};
-use print::{print_body, print_joint};
-use records::body::{BodyState, IDENTITY_BODY_STATE};
+use models::{Model, STEP, prepare};
+use print::Shown;
 use records::joint::JointSim;
 use scene::{Scene, empty_scene};
+use std::fmt::Display;
 use std::io;
 use wall::print_walls;
 
-// Each joint in turn, three rounds: warm starts, solves with bias, solves without.
-const ROUNDS: [u8; 18] = [0, 0, 1, 0, 2, 0, 0, 1, 1, 1, 2, 1, 0, 2, 1, 2, 2, 2];
+// Each joint in turn, three rounds: warm starts, solves with bias, solves without. A call is a joint
+// and a stage.
+const ROUNDS: [[u8; 2]; 9] = [
+    [0, 0],
+    [1, 0],
+    [2, 0],
+    [0, 1],
+    [1, 1],
+    [2, 1],
+    [0, 2],
+    [1, 2],
+    [2, 2],
+];
 
-// The joint of a door whose leaf is body k, prepared.
-pub fn hinge(k: u8) -> JointSim {
-    prepare(door(k), STEP).joint
-}
-
-fn socket() -> JointSim {
-    prepare(hip(1, 2), STEP).joint
-}
-
-fn weld() -> JointSim {
-    prepare(strut(3), STEP).joint
+// The joint of a model, prepared.
+pub fn prepared(model: Model) -> JointSim {
+    prepare(model, STEP).joint
 }
 
 // The door's leaf is body 0, pelvis and thigh are 1 and 2, and the strut is 3.
-fn bodies() -> [BodyState; 32] {
-    let mut bodies = [IDENTITY_BODY_STATE; 32];
-    bodies[0] = moving(0.25);
-    bodies[1] = moving(0.5);
-    bodies[2] = moving(0.75);
-    bodies[3] = moving(0.5);
-    bodies
-}
-
 fn build() -> Scene {
     let mut scene = empty_scene(STEP);
-    scene.joints[0] = hinge(0);
-    scene.joints[1] = socket();
-    scene.joints[2] = weld();
+    scene.joints[0] = prepared(door(0));
+    scene.joints[1] = prepared(hip(1, 2));
+    scene.joints[2] = prepared(strut(3));
     scene.joint_count = 3;
-    let bodies = bodies();
-    scene.bodies = bodies;
+    scene.bodies[0] = moving(0.25);
+    scene.bodies[1] = moving(0.5);
+    scene.bodies[2] = moving(0.75);
+    scene.bodies[3] = moving(0.5);
     scene.body_count = 4;
     scene
 }
 
-// One line for what the run answers.
-fn print_answer(rt: &impl Print, number: u32, place: u32, still: bool) -> io::Result<()> {
-    print!(rt; "number {number}, place {place}")?;
-    if still {
-        println!(rt; ", still")
-    } else {
-        println!(rt; ", not still")
-    }
-}
-
-// The first four bodies, a line for each.
-fn print_bodies(rt: &impl Print, bodies: [BodyState; 32]) -> io::Result<()> {
-    let mut k = 0usize;
-    while k < 4 {
-        print_body(rt, k, bodies[k])?;
-        k += 1;
-    }
-    Ok(())
-}
-
-// The first four joints, a line for each.
-fn print_joints(rt: &impl Print, joints: [JointSim; 32]) -> io::Result<()> {
-    let mut k = 0usize;
-    while k < 4 {
-        print_joint(rt, k, joints[k])?;
-        k += 1;
+// The first four of a scene's bodies or joints, a line for each.
+fn print_first<T: Copy>(rt: &impl Print, name: &str, all: [T; 32]) -> io::Result<()>
+where
+    Shown<T>: Display,
+{
+    for (k, &item) in all.iter().take(4).enumerate() {
+        println!(rt; "{name} {k}: {}", Shown(item))?;
     }
     Ok(())
 }
 
 fn print_scene(rt: &impl Print, scene: Scene) -> io::Result<()> {
-    let joints = scene.joints;
-    let bodies = scene.bodies;
-    print_bodies(rt, bodies)?;
-    print_joints(rt, joints)
+    print_first(rt, "body", scene.bodies)?;
+    print_first(rt, "joint", scene.joints)
 }
 
 // What a run of the list answers and leaves.
 pub fn print_run(rt: &impl Print, scene: Scene, list: &[u8]) -> io::Result<()> {
     let run = run_list(scene, list);
-    print_answer(rt, run.number, run.place, run.still)?;
+    let still = if run.still { "still" } else { "not still" };
+    println!(rt; "number {}, place {}, {still}", run.number, run.place)?;
     print_scene(rt, run.scene)
 }
 
 fn main(rt: HostRuntime) -> io::Result<()> {
     println!(rt; "a door, a hip and a strut")?;
-    print_run(&rt, build(), &ROUNDS)?;
+    print_run(&rt, build(), ROUNDS.as_flattened())?;
     print_walls(&rt)
 }
