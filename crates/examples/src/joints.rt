@@ -1,41 +1,24 @@
 // Examples 13 to 16: prepared joints, one stage, and the states as they are stored.
-use crate::scenes::{body, fixed_body, joint_base, moving, point_body, revolute_joint, step};
-use crate::words::{MINUS_ONE, MINUS_TWO, ONE, THREE, ZERO, is_bits};
+use crate::scenes::{body, fixed_body, motor, moving, point_body, sim, step};
+use crate::words::{MINUS_ONE, MINUS_TWO, ONE, THREE, ZERO, holds};
 use constraint::answer::Solved;
 use joint::store::store_pair;
 use math_functions::types::{Matrix3, VEC3_AXIS_X, VEC3_AXIS_Y, VEC3_AXIS_Z};
 use records::AWAKE_SET;
 use records::body::{BodyRecord, BodyState, IDENTITY_BODY_STATE};
-use records::joint::{DEFAULT_WELD_JOINT, JointSim, JointType, JointUnion, joint_sim, no_angles};
+use records::joint::{DEFAULT_WELD_JOINT, JointSim, JointType, JointUnion, WeldJoint};
 use revolute::{prepare_revolute_joint, solve_revolute_joint};
 use weld::{prepare_weld_joint, solve_weld_joint, warm_start_weld_joint};
 
-fn weld_sim() -> JointSim {
-    joint_sim(
-        joint_base(JointType::Weld),
-        JointUnion::Weld(DEFAULT_WELD_JOINT),
-        no_angles(),
-    )
-}
-
 fn prepared_weld(body_a: BodyRecord, body_b: BodyRecord) -> JointSim {
-    let p = prepare_weld_joint(weld_sim(), step(0.0), body_a, body_b);
-    p.joint
+    let weld = sim(JointType::Weld, JointUnion::Weld(DEFAULT_WELD_JOINT));
+    prepare_weld_joint(weld, step(0.0), body_a, body_b).joint
 }
 
 // What a solve without bias leaves of the prepared weld and the velocities.
 fn solved_weld(body_a: BodyRecord, body_b: BodyRecord, a: BodyState, b: BodyState) -> Solved {
-    let sim = prepared_weld(body_a, body_b);
-    solve_weld_joint(sim, step(0.0), a, b, false)
-}
-
-// Whether the joint is a weld with this linear impulse along x.
-fn has_linear_impulse(sim: JointSim, bits: u32) -> bool {
-    let u = sim.union_;
-    let JointUnion::Weld(j) = u else {
-        return false;
-    };
-    is_bits(j.linear_impulse.x, bits)
+    let weld = prepared_weld(body_a, body_b);
+    solve_weld_joint(weld, step(0.0), a, b, false)
 }
 
 pub fn is_13() -> bool {
@@ -43,9 +26,17 @@ pub fn is_13() -> bool {
     let b = moving(2.0);
     let s = solved_weld(point_body(0), point_body(1), a, b);
     let after = store_pair(a, b, false, s.velocities);
-    is_bits(after.state_a.linear_velocity.x, ONE)
-        & is_bits(after.state_b.linear_velocity.x, ONE)
-        & has_linear_impulse(s.joint, MINUS_ONE)
+    let JointUnion::Weld(j) = s.joint.union_ else {
+        return false;
+    };
+    holds(
+        [
+            after.state_a.linear_velocity.x,
+            after.state_b.linear_velocity.x,
+            j.linear_impulse.x,
+        ],
+        [ONE, ONE, MINUS_ONE],
+    )
 }
 
 pub fn is_14() -> bool {
@@ -53,39 +44,25 @@ pub fn is_14() -> bool {
     let b = moving(2.0);
     let s = solved_weld(fixed_body(), point_body(0), a, b);
     let after = store_pair(a, b, false, s.velocities);
-    is_bits(after.state_b.linear_velocity.x, ZERO) & has_linear_impulse(s.joint, MINUS_TWO)
-}
-
-fn identity_matrix() -> Matrix3 {
-    Matrix3 {
-        cx: VEC3_AXIS_X,
-        cy: VEC3_AXIS_Y,
-        cz: VEC3_AXIS_Z,
-    }
-}
-
-// Whether the joint is a revolute joint with this motor impulse.
-fn has_motor_impulse(sim: JointSim, bits: u32) -> bool {
-    let u = sim.union_;
-    let JointUnion::Revolute(j) = u else {
+    let JointUnion::Weld(j) = s.joint.union_ else {
         return false;
     };
-    is_bits(j.motor_impulse, bits)
-}
-
-fn motor_sim() -> JointSim {
-    let motor = revolute_joint(2.0, 4.0);
-    joint_sim(
-        joint_base(JointType::Revolute),
-        JointUnion::Revolute(motor),
-        no_angles(),
+    holds(
+        [after.state_b.linear_velocity.x, j.linear_impulse.x],
+        [ZERO, MINUS_TWO],
     )
 }
 
+const MAT3_IDENTITY: Matrix3 = Matrix3 {
+    cx: VEC3_AXIS_X,
+    cy: VEC3_AXIS_Y,
+    cz: VEC3_AXIS_Z,
+};
+
 fn prepared_motor() -> JointSim {
-    let b = body(AWAKE_SET, 0, 1.0, identity_matrix());
-    let p = prepare_revolute_joint(motor_sim(), step(0.5), fixed_body(), b);
-    p.joint
+    let hinge = sim(JointType::Revolute, JointUnion::Revolute(motor(2.0, 4.0)));
+    let b = body(AWAKE_SET, 0, 1.0, MAT3_IDENTITY);
+    prepare_revolute_joint(hinge, step(0.5), fixed_body(), b).joint
 }
 
 pub fn is_15() -> bool {
@@ -93,26 +70,31 @@ pub fn is_15() -> bool {
     let b = moving(0.0);
     let s = solve_revolute_joint(prepared_motor(), step(0.5), a, b, false);
     let after = store_pair(a, b, false, s.velocities);
-    is_bits(after.state_b.angular_velocity.z, ONE) & has_motor_impulse(s.joint, ONE)
+    let JointUnion::Revolute(j) = s.joint.union_ else {
+        return false;
+    };
+    holds(
+        [j.motor_impulse, after.state_b.angular_velocity.z],
+        [ONE, ONE],
+    )
 }
 
 // The joint with the linear impulse (1, 0, 0), if it is a weld.
-fn with_linear_impulse(sim: JointSim) -> JointSim {
-    let u = sim.union_;
-    let JointUnion::Weld(mut j) = u else {
+fn pushed(sim: JointSim) -> JointSim {
+    let JointUnion::Weld(j) = sim.union_ else {
         return sim;
     };
-    j.linear_impulse.x = 1.0;
-    joint_sim(sim.base, JointUnion::Weld(j), sim.angles)
-}
-
-fn pushed_weld(body: BodyRecord) -> JointSim {
-    with_linear_impulse(prepared_weld(body, body))
+    let union_ = JointUnion::Weld(WeldJoint {
+        linear_impulse: VEC3_AXIS_X,
+        ..j
+    });
+    JointSim { union_, ..sim }
 }
 
 pub fn is_16() -> bool {
+    let body = point_body(0);
     let state = moving(2.0);
-    let w = warm_start_weld_joint(pushed_weld(point_body(0)), state, state);
+    let w = warm_start_weld_joint(pushed(prepared_weld(body, body)), state, state);
     let after = store_pair(state, state, true, w.velocities);
-    is_bits(after.state_a.linear_velocity.x, THREE)
+    holds([after.state_a.linear_velocity.x], [THREE])
 }

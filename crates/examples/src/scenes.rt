@@ -1,9 +1,12 @@
 // The joints, bodies and states of examples 13 to 16: rotations, frames and deltas identity, all
 // that an example does not name zero, and switches off.
-use math_functions::types::{MAT3_ZERO, Matrix3, QUAT_IDENTITY, TRANSFORM_IDENTITY, VEC3_ZERO};
+use math_functions::types::{MAT3_ZERO, Matrix3, QUAT_IDENTITY, VEC3_ZERO, Vec3};
 use records::AWAKE_SET;
 use records::body::{BodyRecord, BodyState, DYNAMIC_FLAG, IDENTITY_BODY_STATE};
-use records::joint::{DEFAULT_REVOLUTE_JOINT, JointBase, JointType, RevoluteJoint};
+use records::joint::{
+    DEFAULT_JOINT_BASE, DEFAULT_REVOLUTE_JOINT, JointBase, JointSim, JointType, JointUnion,
+    RevoluteJoint, joint_sim, no_angles,
+};
 use solver::{NO_SOFTNESS, StepContext};
 
 pub fn step(h: f32) -> StepContext {
@@ -22,36 +25,26 @@ pub fn step(h: f32) -> StepContext {
     }
 }
 
-// The part that all kinds share. Every field is spelled out: a store into a field that is an
-// enum, as type_, has no rule in the prover.
-pub fn joint_base(type_: JointType) -> JointBase {
-    JointBase {
+// A joint of a kind before prepare.
+pub fn sim(type_: JointType, union_: JointUnion) -> JointSim {
+    let base = JointBase {
         joint_id: 0,
         body_id_a: 0,
         body_id_b: 0,
         type_,
-        local_frame_a: TRANSFORM_IDENTITY,
-        local_frame_b: TRANSFORM_IDENTITY,
-        inv_mass_a: 0.0,
-        inv_mass_b: 0.0,
-        inv_i_a: MAT3_ZERO,
-        inv_i_b: MAT3_ZERO,
-        constraint_hertz: 0.0,
-        constraint_damping_ratio: 0.0,
-        constraint_softness: NO_SOFTNESS,
-        force_threshold: 0.0,
-        torque_threshold: 0.0,
-        fixed_rotation: false,
-    }
+        ..DEFAULT_JOINT_BASE
+    };
+    joint_sim(base, union_, no_angles())
 }
 
 // A hinge with a motor.
-pub fn revolute_joint(max_motor_torque: f32, motor_speed: f32) -> RevoluteJoint {
-    let mut hinge = DEFAULT_REVOLUTE_JOINT;
-    hinge.max_motor_torque = max_motor_torque;
-    hinge.motor_speed = motor_speed;
-    hinge.enable_motor = true;
-    hinge
+pub fn motor(max_motor_torque: f32, motor_speed: f32) -> RevoluteJoint {
+    RevoluteJoint {
+        max_motor_torque,
+        motor_speed,
+        enable_motor: true,
+        ..DEFAULT_REVOLUTE_JOINT
+    }
 }
 
 // A body at an index of a set.
@@ -84,8 +77,9 @@ pub fn fixed_body() -> BodyRecord {
 
 // A dynamic body that moves along x.
 pub fn moving(x: f32) -> BodyState {
-    let mut state = IDENTITY_BODY_STATE;
-    state.linear_velocity.x = x;
-    state.flags = DYNAMIC_FLAG;
-    state
+    BodyState {
+        linear_velocity: Vec3 { x, ..VEC3_ZERO },
+        flags: DYNAMIC_FLAG,
+        ..IDENTITY_BODY_STATE
+    }
 }
