@@ -5,7 +5,7 @@ use records::joint::{JointSim, JointUnion};
 use std::fmt;
 use stop_code::stop_code;
 
-// A number of this size is far.
+// A number of this size or more is far.
 const FAR: f32 = 8388.607;
 
 // A number, or a record of another crate, as the panel shows it.
