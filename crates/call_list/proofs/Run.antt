@@ -5,7 +5,7 @@ use mathlib.Core.Bool.{Bool}
 use mathlib.Core.List.{List}
 use Prim.Native.Nat.{ℕ}
 use Rattle.scene.specs.declared.Scene.{Scene}
-use Rattle.scene.specs.declared.Verdict.{Verdict}
+use Rattle.scene.specs.Plain.{Verdict}
 use Rattle.scene.specs.Calls.{calls}
 use Rattle.scene.specs.Plain.{verdict, Accepted, run_calls, same_below, is_still, done, refused, plain_run}
 use Rattle.scene.proofs.Accepted.{run_accepted, run_refused}

@@ -19,7 +19,7 @@ use Rattle.revolute.specs.Revolute.{prepare_revolute_joint}
 use Rattle.spherical.specs.Spherical.{prepare_spherical_joint}
 use Rattle.stop_code.specs.StopCode.{stop_code}
 use Rattle.scene.specs.declared.Scene.{Scene}
-use Rattle.scene.specs.declared.Run.{Run}
+use Rattle.scene.specs.Plain.{RunAnswer}
 use Rattle.scene.specs.Scene.{joint_at, body_at}
 use Rattle.scene.specs.Plain.{plain_run}
 use Rattle.scene.specs.Chain as Chain
@@ -145,13 +145,13 @@ kept x = Chain.moving x 0
 
 -- ---- what is seen of a run
 
-abbrev x_of : Run → ℕ → Float
+abbrev x_of : RunAnswer → ℕ → Float
 x_of r n = (body_at r.scene n).linear_velocity.x
 
-abbrev turn_of : Run → Float
+abbrev turn_of : RunAnswer → Float
 turn_of r = (body_at r.scene 0).angular_velocity.z
 
-abbrev stop_of : Run → ℕ
+abbrev stop_of : RunAnswer → ℕ
 stop_of r = (stop_code (joint_at r.scene 0)).code
 
 abbrev lower_of : JointUnion → Float
@@ -166,16 +166,16 @@ upper_of (Spherical j) = j.upper_twist_impulse
 upper_of (Weld j) = nan
 upper_of Other = nan
 
-abbrev lower : Run → Float
+abbrev lower : RunAnswer → Float
 lower r = lower_of (joint_at r.scene 0).union_
 
-abbrev upper : Run → Float
+abbrev upper : RunAnswer → Float
 upper r = upper_of (joint_at r.scene 0).union_
 
-abbrev twist : Run → Float
+abbrev twist : RunAnswer → Float
 twist r = (joint_at r.scene 0).angles.twist
 
-abbrev impulse_x : Run → Float
+abbrev impulse_x : RunAnswer → Float
 impulse_x r = linear_impulse_x (joint_at r.scene 0).union_
 
 -- ---- the figures, each below the sentence that it shows to be false

@@ -12,7 +12,7 @@ use lib.Seq.{drop-cons, take_all}
 use borrow.Author.Tests.{eq-eqb, ne_eqb, eqb-false, ltb-false, leb-false}
 use Rattle.records.specs.declared.joint.JointSim.{JointSim}
 use Rattle.scene.specs.declared.Scene.{Scene}
-use Rattle.scene.specs.declared.Verdict.{Verdict}
+use Rattle.scene.specs.Plain.{Verdict}
 use Rattle.records.specs.Joint.{unused_joint}
 use Rattle.scene.specs.Calls.{call, calls}
 use Rattle.scene.specs.Plain.{joint_cause, stage_cause, cause, verdict_of, first_cause, early_cause, verdict}

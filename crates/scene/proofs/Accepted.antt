@@ -12,8 +12,8 @@ use borrow.Author.Tests.{eqb-true, eqb-false, leb-true, leb-false, ltb-true, ltb
 use Rattle.records.specs.declared.joint.JointUnion.{JointUnion}
 use Rattle.records.specs.declared.joint.JointUnion.TheVariants.{Revolute, Spherical, Weld, Other}
 use Rattle.scene.specs.declared.Scene.{Scene}
-use Rattle.scene.specs.declared.Verdict.{Verdict}
-use Rattle.scene.specs.declared.Run.{Run}
+use Rattle.scene.specs.Plain.{Verdict}
+use Rattle.scene.specs.Plain.{RunAnswer}
 use Rattle.joint.specs.Index.{index_a, index_b, bad_index}
 use Rattle.records.specs.Joint.{case_of, is_other}
 use Rattle.scene.specs.Scene.{joint_at}
@@ -189,7 +189,7 @@ answers_hold Q ts v a zeros h = by (eqb v.number 0) refl
 
 -- ---- a run is worked, or refused
 
-pub by_verdict : (s : Scene) (l : List ℕ) (P : Run → Type 0)
+pub by_verdict : (s : Scene) (l : List ℕ) (P : RunAnswer → Type 0)
     → (Accepted s l → P (done s (run_calls (calls l) s)))
     → ((verdict s l).number ≢ 0 → P (refused (verdict s l) s))
     → P (plain_run s l)

@@ -1,7 +1,7 @@
 -- Document 01's plain run: what a run of a call list on a scene answers, from the scene at the start and the list's bytes; still is C-20's. Definitions only.
 -- Assumes nothing.
 use Rattle.std.specs.Prelude.{◌≡◌, Bool, true, false, cond, ◌&&◌, ◌||◌, List, [], ◌∷◌, ℕ, zero, suc, ◌+◌, ◌%◌, eqb, ltb, leb}
-use Rattle.std.specs.Prelude.{Float, ℤ, pos, negsuc, length, get_or, set}
+use Rattle.std.specs.Prelude.{Float, ℤ, pos, negsuc, length, get_or, set, Result, Ok, Err, ⊤}
 use Rattle.std.specs.Bool.{beq}
 use Rattle.std.specs.Float.{nan, inf, fin}
 use Rattle.std.specs.Float.Ieee.{is_nan}
@@ -10,11 +10,12 @@ use Rattle.records.specs.declared.body.BodyState.{BodyState}
 use Rattle.records.specs.declared.joint.JointSim.{JointSim}
 use Rattle.records.specs.declared.joint.JointUnion.{JointUnion}
 use Rattle.records.specs.Body.{identity_body_state}
+use Rattle.records.specs.declared.refusal.Refusal.{Refusal}
+use Rattle.records.specs.Refusal.{number_of}
 use Rattle.constraint.specs.declared.velocity.Velocities.{Velocities}
 use Rattle.records.specs.Joint.{is_other}
 use Rattle.joint.specs.Stage.{Staged, stage_joint}
 use Rattle.scene.specs.declared.Scene.{Scene}
-use Rattle.scene.specs.declared.Verdict.{Verdict}
 use Rattle.scene.specs.declared.Run.{Run}
 use Rattle.joint.specs.Index.{index_a, index_b, index_cause}
 use Rattle.scene.specs.Scene.{with_bodies_and_joints, joint_at, state_at, store}
@@ -39,6 +40,11 @@ cause_in body_count joint_count union c = call_cause joint_count (joint_cause bo
 
 unfoldable pub cause : Scene → Call → ℕ
 cause s c = cause_in s.body_count s.joint_count (joint_at s c.slot).union_ c
+
+-- the first cause of a refusal and its place, or 0 and 0
+pub record Verdict : Type 0 where
+  pub number : ℕ
+  pub place : ℕ
 
 abbrev pub verdict_of : ℕ → ℕ → Verdict
 verdict_of number place = record { number = number; place = place }
@@ -131,13 +137,31 @@ is_still before after = same_below before.body_count before.bodies after.bodies
 
 -- ---- the run
 
+-- 'a run returns a number, a place, the scene, and a yes or no "still"'
+pub record RunAnswer : Type 0 where
+  pub number : ℕ
+  pub place : ℕ
+  pub still : Bool
+  pub scene : Scene
+
 -- 'number 0, place 0, still as defined, and the scene'
-abbrev pub done : Scene → Scene → Run
+abbrev pub done : Scene → Scene → RunAnswer
 done before after = record { number = 0; place = 0; still = is_still before after; scene = after }
 
 -- 'the first one's number and place, still no, and the scene as fed'
-abbrev pub refused : Verdict → Scene → Run
+abbrev pub refused : Verdict → Scene → RunAnswer
 refused v s = record { number = v.number; place = v.place; still = false; scene = s }
 
-unfoldable pub plain_run : Scene → List ℕ → Run
+unfoldable pub plain_run : Scene → List ℕ → RunAnswer
 plain_run s l = cond (eqb (verdict s l).number 0) (done s (run_calls (calls l) s)) (refused (verdict s l) s)
+
+-- ---- what the code returns, in those terms: 'when an answer is an enum, a definition gives this paper's number and values for each case of that enum'
+
+abbrev pub verdict_answer : Result ⊤ Refusal → Verdict
+verdict_answer (Ok u) = verdict_of 0 0
+verdict_answer (Err r) = verdict_of (number_of r.cause) r.place
+
+-- of a run of a list on this scene
+abbrev pub run_answer : Scene → Result Run Refusal → RunAnswer
+run_answer s (Ok r) = record { number = 0; place = 0; still = r.still; scene = r.scene }
+run_answer s (Err r) = refused (verdict_answer (Err r)) s

@@ -20,18 +20,10 @@ pub struct Scene {
     pub context: StepContext,
 }
 
-// The first cause of a refusal and its place, or 0 and 0.
-#[derive(Clone, Copy)]
-pub struct Verdict {
-    pub number: u32,
-    pub place: u32,
-}
-
-// What a run answers.
+// What a run answers of a list that is accepted. One that is not is refused
+// (`records::refusal::Refusal`), and the scene stays as it was fed.
 #[derive(Clone, Copy)]
 pub struct Run {
-    pub number: u32,
-    pub place: u32,
     pub still: bool,
     pub scene: Scene,
 }
