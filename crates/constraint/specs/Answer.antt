@@ -1,5 +1,5 @@
 -- The answers of the stages: number 0 with what was done, or number 1 with nothing altered. Place is 0. Definitions only. Assumes nothing.
-use Rattle.std.specs.Prelude.{ℕ, Option, Some, None, Result, Ok, Err}
+use Rattle.std.specs.Prelude.{ℕ, Option, Some, None}
 use Rattle.math_functions.specs.declared.mark.Mark.{Mark}
 use Rattle.math_functions.specs.Mark.{no_mark}
 use Rattle.records.specs.declared.body.BodyState.{BodyState}
@@ -74,7 +74,5 @@ prepare_answer r = record { number = number_of r.refused; place = 0; joint = r.j
 abbrev pub solve_answer : Solved → SolvedAnswer
 solve_answer r = record { number = number_of r.refused; place = 0; joint = r.joint; velocities = r.velocities; report = r.report }
 
--- a warm start that is refused leaves the joint and the states that it was called with
-abbrev pub warm_start_answer : JointSim → BodyState → BodyState → Result WarmStarted WrongKind → WarmStartedAnswer
-warm_start_answer joint state_a state_b (Ok r) = warm_started r.joint r.velocities
-warm_start_answer joint state_a state_b (Err w) = not_warm_started joint state_a state_b
+abbrev pub warm_start_answer : WarmStarted → WarmStartedAnswer
+warm_start_answer r = record { number = number_of r.refused; place = 0; joint = r.joint; velocities = r.velocities }

@@ -1,9 +1,9 @@
 // What the stages by value answer. A joint whose case is not the kind called is refused: it comes back as
 // it was, with the velocities as they were, and nothing is reported.
 //
-// Prepare and solve answer the joint in both cases, and the refusal last: a `Result` of so large a record
-// is copied once more, which is up to 10 in a hundred more instructions (docs/PERFORMANCE.md), and a byte
-// before the joint costs a copy too.
+// The joint stands in every answer, and the refusal beside it, last: a `Result` of so large a record is
+// copied once more, which is up to 10 in a hundred more instructions, and a byte before the joint costs a
+// copy too (docs/PERFORMANCE.md).
 ghost use Rattle.std.specs.Prelude.{◌≡◌};
 ghost use Rattle.constraint.specs.Answer as D;
 
@@ -25,6 +25,7 @@ pub struct Prepared {
 pub struct WarmStarted {
     pub joint: JointSim,
     pub velocities: Velocities,
+    pub refused: Option<WrongKind>,
 }
 
 // What a solve reports of its rows: the marks of revolute's perpendicular row and of the point row.
@@ -55,6 +56,17 @@ pub fn prepare_refused(joint: JointSim) -> Prepared
     Prepared {
         joint,
         mass_mark: None,
+        refused: Some(WrongKind),
+    }
+}
+
+// What a warm start answers of a joint that it refuses.
+pub fn warm_start_refused(joint: JointSim, state_a: BodyState, state_b: BodyState) -> WarmStarted
+    ensures { D.warm_start_answer result ≡ D.not_warm_started joint state_a state_b }
+{
+    WarmStarted {
+        joint,
+        velocities: velocities_of(state_a, state_b),
         refused: Some(WrongKind),
     }
 }

@@ -9,11 +9,12 @@ ghost use Rattle.revolute.specs.Revolute as D;
 use crate::prepare::prepare_revolute;
 use crate::solve::solve_revolute;
 use crate::warm_start::warm_start_revolute;
-use constraint::answer::{Prepared, Solved, WarmStarted, prepare_refused, solve_refused};
+use constraint::answer::{
+    Prepared, Solved, WarmStarted, prepare_refused, solve_refused, warm_start_refused,
+};
 use math_functions::transform::sub_pos;
 use records::body::{BodyRecord, BodyState};
 use records::joint::{JointSim, RevoluteJoint, joint_sim, no_angles};
-use records::refusal::WrongKind;
 use solver::StepContext;
 
 mod prepare;
@@ -57,12 +58,18 @@ pub fn warm_start_revolute_joint(
     joint: JointSim,
     state_a: BodyState,
     state_b: BodyState,
-) -> Result<WarmStarted, WrongKind>
-    ensures { warm_start_answer joint state_a state_b result ≡ D.warm_start_revolute_joint joint state_a state_b }
+) -> WarmStarted
+    ensures { warm_start_answer result ≡ D.warm_start_revolute_joint joint state_a state_b }
 {
-    let k = RevoluteJoint::try_from(joint.union_)?;
+    let Ok(k) = RevoluteJoint::try_from(joint.union_) else {
+        return warm_start_refused(joint, state_a, state_b);
+    };
     let velocities = warm_start_revolute(joint.base, k, state_a, state_b);
-    Ok(WarmStarted { joint, velocities })
+    WarmStarted {
+        joint,
+        velocities,
+        refused: None,
+    }
 }
 
 // Solve; a joint that is no revolute joint is refused.

@@ -9,11 +9,12 @@ ghost use Rattle.spherical.specs.Spherical as D;
 use crate::prepare::prepare_spherical;
 use crate::solve::solve_spherical;
 use crate::warm_start::warm_start_spherical;
-use constraint::answer::{Prepared, Solved, WarmStarted, prepare_refused, solve_refused};
+use constraint::answer::{
+    Prepared, Solved, WarmStarted, prepare_refused, solve_refused, warm_start_refused,
+};
 use math_functions::transform::sub_pos;
 use records::body::{BodyRecord, BodyState};
 use records::joint::{JointSim, SphericalJoint, joint_sim, no_angles};
-use records::refusal::WrongKind;
 use solver::StepContext;
 
 mod prepare;
@@ -57,12 +58,18 @@ pub fn warm_start_spherical_joint(
     joint: JointSim,
     state_a: BodyState,
     state_b: BodyState,
-) -> Result<WarmStarted, WrongKind>
-    ensures { warm_start_answer joint state_a state_b result ≡ D.warm_start_spherical_joint joint state_a state_b }
+) -> WarmStarted
+    ensures { warm_start_answer result ≡ D.warm_start_spherical_joint joint state_a state_b }
 {
-    let k = SphericalJoint::try_from(joint.union_)?;
+    let Ok(k) = SphericalJoint::try_from(joint.union_) else {
+        return warm_start_refused(joint, state_a, state_b);
+    };
     let velocities = warm_start_spherical(joint.base, k, state_a, state_b);
-    Ok(WarmStarted { joint, velocities })
+    WarmStarted {
+        joint,
+        velocities,
+        refused: None,
+    }
 }
 
 // Solve; a joint that is no spherical joint is refused.

@@ -9,11 +9,12 @@ ghost use Rattle.weld.specs.Weld as D;
 use crate::prepare::prepare_weld;
 use crate::solve::solve_weld;
 use crate::warm_start::warm_start_weld;
-use constraint::answer::{Prepared, Solved, WarmStarted, prepare_refused, solve_refused};
+use constraint::answer::{
+    Prepared, Solved, WarmStarted, prepare_refused, solve_refused, warm_start_refused,
+};
 use math_functions::transform::sub_pos;
 use records::body::{BodyRecord, BodyState};
 use records::joint::{JointSim, WeldJoint, joint_sim, no_angles};
-use records::refusal::WrongKind;
 use solver::StepContext;
 
 mod prepare;
@@ -53,16 +54,18 @@ pub fn prepare_weld_joint(
 
 // Warm start; the joint comes back as it was, and one of another kind is refused.
 #[tactic(auto, unfolding(crate::specs::Weld::warm_start_weld_joint))]
-pub fn warm_start_weld_joint(
-    joint: JointSim,
-    state_a: BodyState,
-    state_b: BodyState,
-) -> Result<WarmStarted, WrongKind>
-    ensures { warm_start_answer joint state_a state_b result ≡ D.warm_start_weld_joint joint state_a state_b }
+pub fn warm_start_weld_joint(joint: JointSim, state_a: BodyState, state_b: BodyState) -> WarmStarted
+    ensures { warm_start_answer result ≡ D.warm_start_weld_joint joint state_a state_b }
 {
-    let k = WeldJoint::try_from(joint.union_)?;
+    let Ok(k) = WeldJoint::try_from(joint.union_) else {
+        return warm_start_refused(joint, state_a, state_b);
+    };
     let velocities = warm_start_weld(joint.base, k, state_a, state_b);
-    Ok(WarmStarted { joint, velocities })
+    WarmStarted {
+        joint,
+        velocities,
+        refused: None,
+    }
 }
 
 // Solve; a joint that is no weld joint is refused. `context` is unused, as in the Rust.
