@@ -19,7 +19,8 @@ use Rattle.constraint.specs.Answer.{SolvedAnswer}
 use Rattle.constraint.specs.Velocity.{velocities_of}
 use Rattle.constraint.specs.Answer.{no_report}
 use Rattle.joint.specs.Stage.{Staged, staged, of_warm_start, of_solve, warm_start_as, warm_start_joint, solve_as, solve_joint, stage_joint}
-use Rattle.joint.proofs.Stages.{warm_start_of, solve_of, warm_start_of_lem, solve_of_lem, warm_start_joint_lem}
+use Rattle.joint.specs.Stage.{warm_start_of, solve_of}
+use Rattle.joint.proofs.Stages.{warm_start_of_lem, solve_of_lem, warm_start_joint_lem}
 use Rattle.call_list.specs.Positions.{stage_code}
 use Rattle.call_list.proofs.StageCodes.{warm_code, solve_code, no_code}
 

@@ -26,7 +26,7 @@ use Rattle.scene.specs.Calls.{call}
 use Rattle.scene.specs.Plain as Plain
 use Rattle.scene.specs.Plain.{verdict_of, early_cause, verdict, store_both, step, plain_run}
 use Rattle.scene.proofs.Accepted.{run_accepted, run_refused}
-use Rattle.direct.specs.declared.call.StageCall.{StageCall}
+use Rattle.direct.specs.Direct.{StageCall}
 use Rattle.direct.specs.Direct.{is_of_kind, cause, Outcome, stage_at, direct_call}
 use Rattle.direct.proofs.Outcomes.{its_cause, worked_is, refused_is}
 use Rattle.direct.specs.Claims.{call_of, counted, Callable, OfKind, SameEnd}

@@ -9,7 +9,7 @@ use lib.ListN.{length}
 use borrow.Author.Tests.{eqb-true, eqb-false}
 use Rattle.records.specs.declared.body.BodyState.{BodyState}
 use Rattle.records.specs.declared.joint.JointSim.{JointSim}
-use Rattle.direct.specs.declared.call.StageCall.{StageCall}
+use Rattle.direct.specs.Direct.{StageCall}
 use Rattle.direct.specs.Direct.{cause, Outcome, refused, done, stage_at, direct_call}
 
 module _ (call : StageCall) (joint : JointSim) (states : List BodyState) where

@@ -28,7 +28,7 @@ use Rattle.scene.proofs.Stores.{store_long, both_rest}
 use Rattle.scene.proofs.Framed.{only_impulses}
 use Rattle.scene.proofs.Changes.{not_stored, only_velocities}
 use Rattle.scene.proofs.Accepted.{Says, says_of, says_other, says_index, Answers, answers_nil, answers_test, answers_numbers, answers_none, answers_hold}
-use Rattle.direct.specs.declared.call.StageCall.{StageCall}
+use Rattle.direct.specs.Direct.{StageCall}
 use Rattle.direct.specs.Direct.{is_of_kind, cause, refused, done, stage_at, direct_call, warm_start, solve}
 use Rattle.direct.specs.Claims.{Cause1, tests, Numbers, Acceptance, Range, Refusal, OnlyChanges, Changes, WarmStartKeeps}
 use Rattle.direct.specs.Claims.{PairStored, OneBodyTwice, OneCall, LimitsAfterCall, SolveReports, NoMarks}

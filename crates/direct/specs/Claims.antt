@@ -17,7 +17,7 @@ use Rattle.joint.specs.Store.{state_pair, store_pair}
 use Rattle.scene.specs.Scene.{joint_at, state_at, NamesBody}
 use Rattle.scene.specs.Plain.{store_both, plain_run}
 use Rattle.scene.specs.Claims.{OutOf, Test, test, NoCause, FirstCause, OnlyVelocities, OnlyImpulses, LimitsNonNegative}
-use Rattle.direct.specs.declared.call.StageCall.{StageCall}
+use Rattle.direct.specs.Direct.{StageCall}
 use Rattle.direct.specs.Direct.{warm_start, solve, Outcome, direct_call}
 
 -- ==== Numbers

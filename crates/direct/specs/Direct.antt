@@ -1,12 +1,14 @@
 -- Document 01's direct call on lent memory: the answer, the joint and the states as it leaves them, for every joint and every list of states. What a joint
 -- names and how a body is read and stored are the scene's definitions. Definitions only. Assumes nothing.
-use Rattle.std.specs.Prelude.{◌≡◌, Bool, false, cond, List, ℕ, eqb, length}
+use Rattle.std.specs.Prelude.{◌≡◌, Bool, false, cond, List, ℕ, eqb, length, Option, None, Some}
 use Rattle.solver.specs.declared.StepContext.{StepContext}
 use Rattle.solver.specs.Solver.{default_context}
 use Rattle.records.specs.declared.body.BodyState.{BodyState}
 use Rattle.records.specs.declared.joint.JointUnion.{JointUnion}
 use Rattle.records.specs.declared.joint.JointUnion.TheVariants.{Revolute, Spherical, Weld, Other}
 use Rattle.records.specs.declared.joint.JointSim.{JointSim}
+use Rattle.records.specs.declared.refusal.Cause.{Cause}
+use Rattle.records.specs.Refusal.{number_of}
 use Rattle.constraint.specs.declared.answer.Report.{Report}
 use Rattle.constraint.specs.Answer.{no_report}
 use Rattle.joint.specs.Stage.{Staged, stage_joint}
@@ -14,9 +16,15 @@ use Rattle.joint.specs.Index.{index_a, index_b, index_cause}
 use Rattle.scene.specs.Scene.{state_at}
 use Rattle.scene.specs.Plain.{store_both}
 use Rattle.direct.specs.declared.Answer.{Answer}
-use Rattle.direct.specs.declared.call.StageCall.{StageCall}
 
 -- ---- what is called
+
+-- what a direct call is called with, besides what is lent to it: the kind, by the number of its case; the stage as a call list has it (0 warm start, 1 solve
+-- with bias, 2 solve without); and the step context, which a warm start does not read
+pub record StageCall : Type 0 where
+  pub kind : ℕ
+  pub stage : ℕ
+  pub context : StepContext
 
 -- a kind, by the number of its case
 abbrev pub revolute : ℕ
@@ -52,14 +60,20 @@ cause kind union body_count = cond (is_of_kind kind union) (index_cause body_cou
 
 -- ---- what it does
 
+-- number, place, and what a solve reports of its rows
+pub record CallAnswer : Type 0 where
+  pub number : ℕ
+  pub place : ℕ
+  pub report : Report
+
 -- the answer, and the joint and the states as the call leaves them
 pub record Outcome : Type 0 where
-  pub answer : Answer
+  pub answer : CallAnswer
   pub joint : JointSim
   pub states : List BodyState
 
 -- 'a direct stage call has place 0'
-abbrev pub answer_of : ℕ → Report → Answer
+abbrev pub answer_of : ℕ → Report → CallAnswer
 answer_of number r = record { number = number; place = 0; report = r }
 
 -- a refusal leaves all as it was, and reports nothing
@@ -83,5 +97,17 @@ direct_call call joint states =
     cond (eqb number 0) (done joint states (stage_at call joint states)) (refused number joint states)
 
 -- a function answers `r` and leaves the joint and the states as the outcome says: all of each is fixed
-abbrev pub Leaves : Outcome → Answer → JointSim → List BodyState → Type 0
+abbrev pub Leaves : Outcome → CallAnswer → JointSim → List BodyState → Type 0
 Leaves outcome r joint states = (r ≡ outcome.answer) × (joint ≡ outcome.joint) × (states ≡ outcome.states)
+
+-- ---- what the code answers, in those terms: 'when an answer is an enum, a definition gives this paper's number and values for each case of that enum'
+
+abbrev pub refused_number : Option Cause → ℕ
+refused_number None = 0
+refused_number (Some cause) = number_of cause
+
+abbrev pub answer : Report → Option Cause → Answer
+answer r refused = record { report = r; refused = refused }
+
+abbrev pub answered : Answer → CallAnswer
+answered r = answer_of (refused_number r.refused) r.report

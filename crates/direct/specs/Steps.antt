@@ -3,25 +3,16 @@
 use Rattle.std.specs.Prelude.{List, ℕ, ℤ, pos, negsuc, get_or, set}
 use Rattle.math_functions.specs.declared.types.Vec3.{Vec3}
 use Rattle.records.specs.declared.body.BodyState.{BodyState}
-use Rattle.records.specs.declared.joint.JointSim.{JointSim}
 use Rattle.records.specs.Body.{store_velocities, identity_body_state}
 use Rattle.constraint.specs.declared.velocity.Velocities.{Velocities}
-use Rattle.constraint.specs.Answer.{no_report}
 use Rattle.joint.specs.declared.store.StatePair.{StatePair}
 use Rattle.joint.specs.Store.{state_pair}
-use Rattle.joint.specs.Index.{index_a, index_b}
 use Rattle.direct.specs.declared.positions.Positions.{Positions}
-use Rattle.direct.specs.Direct.{cause, answer_of}
 
 -- an index among n, and n for a negative one
 abbrev pub position_of : ℕ → ℤ → ℕ
 position_of n (pos k) = k
 position_of n (negsuc k) = n
-
-abbrev pub positions_of : ℕ → JointSim → ℕ → Positions
-positions_of kind joint n =
-    let union = joint.union_ in
-    record { answer = answer_of (cause kind union n) no_report; a = position_of n (index_a union); b = position_of n (index_b union) }
 
 abbrev pub read_states : Positions → List BodyState → StatePair
 read_states p states = state_pair (get_or states p.a identity_body_state) (get_or states p.b identity_body_state)

@@ -7,67 +7,91 @@ ghost use Rattle.direct.specs.Direct as D;
 
 use crate::positions::find_positions;
 use crate::states::{read_states, write_states};
-use constraint::answer::Report;
+use constraint::answer::{NO_REPORT, Report};
+use joint::kind::Kind;
 use records::body::BodyState;
-use records::joint::JointSim;
+use records::joint::{JointSim, RevoluteJoint, SphericalJoint, WeldJoint};
+use records::refusal::Cause;
 use solver::StepContext;
 
-mod call;
 mod positions;
 mod states;
 
-// What a direct call answers: a number, which is 0 where the work was done, place 0, and what a solve
-// reports of its rows.
+// What a direct call answers: what a solve reports of its rows, and the cause of a refusal, whose place is
+// 0. As a `Result` it makes warm starts 30 in a hundred slower (docs/PERFORMANCE.md).
 #[derive(Clone, Copy)]
 pub struct Answer {
-    pub number: u32,
-    pub place: u32,
     pub report: Report,
+    pub refused: Option<Cause>,
+}
+
+fn warm_start<K: Kind>(joint: &mut JointSim, states: &mut [BodyState]) -> Answer
+    ensures { D.Leaves (D.direct_call (D.warm_start K.kind) joint.old states.old)
+        (D.answered result) joint.new states.new }
+{
+    let n = states.len();
+    let positions = find_positions::<K>(joint.union_, n);
+    if let Some(cause) = positions.refused {
+        return Answer {
+            report: NO_REPORT,
+            refused: Some(cause),
+        };
+    }
+    let pair = read_states(states, positions);
+    let s = K::warm_start(*joint, pair.state_a, pair.state_b);
+    write_states(states, positions, s.velocities);
+    Answer {
+        report: NO_REPORT,
+        refused: None,
+    }
+}
+
+fn solve<K: Kind>(
+    joint: &mut JointSim,
+    context: StepContext,
+    states: &mut [BodyState],
+    use_bias: bool,
+) -> Answer
+    ensures { D.Leaves (D.direct_call (D.solve K.kind context use_bias) joint.old states.old)
+        (D.answered result) joint.new states.new }
+{
+    let n = states.len();
+    let positions = find_positions::<K>(joint.union_, n);
+    if let Some(cause) = positions.refused {
+        return Answer {
+            report: NO_REPORT,
+            refused: Some(cause),
+        };
+    }
+    let pair = read_states(states, positions);
+    let s = K::solve(*joint, context, pair.state_a, pair.state_b, use_bias);
+    *joint = s.joint;
+    write_states(states, positions, s.velocities);
+    Answer {
+        report: s.report,
+        refused: None,
+    }
 }
 
 pub fn warm_start_revolute_joint(joint: &mut JointSim, states: &mut [BodyState]) -> Answer
     ensures { D.Leaves (D.direct_call (D.warm_start D.revolute) joint.old states.old)
-        result joint.new states.new }
+        (D.answered result) joint.new states.new }
 {
-    let n = states.len();
-    let positions = find_positions(0, *joint, n);
-    if positions.answer.number != 0 {
-        return positions.answer;
-    }
-    let pair = read_states(states, positions);
-    let s = revolute::warm_start_revolute_joint(*joint, pair.state_a, pair.state_b);
-    write_states(states, positions, s.velocities);
-    positions.answer
+    warm_start::<RevoluteJoint>(joint, states)
 }
 
 pub fn warm_start_spherical_joint(joint: &mut JointSim, states: &mut [BodyState]) -> Answer
     ensures { D.Leaves (D.direct_call (D.warm_start D.spherical) joint.old states.old)
-        result joint.new states.new }
+        (D.answered result) joint.new states.new }
 {
-    let n = states.len();
-    let positions = find_positions(1, *joint, n);
-    if positions.answer.number != 0 {
-        return positions.answer;
-    }
-    let pair = read_states(states, positions);
-    let s = spherical::warm_start_spherical_joint(*joint, pair.state_a, pair.state_b);
-    write_states(states, positions, s.velocities);
-    positions.answer
+    warm_start::<SphericalJoint>(joint, states)
 }
 
 pub fn warm_start_weld_joint(joint: &mut JointSim, states: &mut [BodyState]) -> Answer
     ensures { D.Leaves (D.direct_call (D.warm_start D.weld) joint.old states.old)
-        result joint.new states.new }
+        (D.answered result) joint.new states.new }
 {
-    let n = states.len();
-    let positions = find_positions(2, *joint, n);
-    if positions.answer.number != 0 {
-        return positions.answer;
-    }
-    let pair = read_states(states, positions);
-    let s = weld::warm_start_weld_joint(*joint, pair.state_a, pair.state_b);
-    write_states(states, positions, s.velocities);
-    positions.answer
+    warm_start::<WeldJoint>(joint, states)
 }
 
 pub fn solve_revolute_joint(
@@ -77,22 +101,9 @@ pub fn solve_revolute_joint(
     use_bias: bool,
 ) -> Answer
     ensures { D.Leaves (D.direct_call (D.solve D.revolute context use_bias) joint.old states.old)
-        result joint.new states.new }
+        (D.answered result) joint.new states.new }
 {
-    let n = states.len();
-    let positions = find_positions(0, *joint, n);
-    if positions.answer.number != 0 {
-        return positions.answer;
-    }
-    let pair = read_states(states, positions);
-    let s = revolute::solve_revolute_joint(*joint, context, pair.state_a, pair.state_b, use_bias);
-    *joint = s.joint;
-    write_states(states, positions, s.velocities);
-    Answer {
-        number: 0,
-        place: 0,
-        report: s.report,
-    }
+    solve::<RevoluteJoint>(joint, context, states, use_bias)
 }
 
 pub fn solve_spherical_joint(
@@ -102,22 +113,9 @@ pub fn solve_spherical_joint(
     use_bias: bool,
 ) -> Answer
     ensures { D.Leaves (D.direct_call (D.solve D.spherical context use_bias) joint.old states.old)
-        result joint.new states.new }
+        (D.answered result) joint.new states.new }
 {
-    let n = states.len();
-    let positions = find_positions(1, *joint, n);
-    if positions.answer.number != 0 {
-        return positions.answer;
-    }
-    let pair = read_states(states, positions);
-    let s = spherical::solve_spherical_joint(*joint, context, pair.state_a, pair.state_b, use_bias);
-    *joint = s.joint;
-    write_states(states, positions, s.velocities);
-    Answer {
-        number: 0,
-        place: 0,
-        report: s.report,
-    }
+    solve::<SphericalJoint>(joint, context, states, use_bias)
 }
 
 pub fn solve_weld_joint(
@@ -127,20 +125,7 @@ pub fn solve_weld_joint(
     use_bias: bool,
 ) -> Answer
     ensures { D.Leaves (D.direct_call (D.solve D.weld context use_bias) joint.old states.old)
-        result joint.new states.new }
+        (D.answered result) joint.new states.new }
 {
-    let n = states.len();
-    let positions = find_positions(2, *joint, n);
-    if positions.answer.number != 0 {
-        return positions.answer;
-    }
-    let pair = read_states(states, positions);
-    let s = weld::solve_weld_joint(*joint, context, pair.state_a, pair.state_b, use_bias);
-    *joint = s.joint;
-    write_states(states, positions, s.velocities);
-    Answer {
-        number: 0,
-        place: 0,
-        report: s.report,
-    }
+    solve::<WeldJoint>(joint, context, states, use_bias)
 }

@@ -1,42 +1,32 @@
 // The tests of a direct call, and the positions of its two states in the slice.
 ghost use Rattle.std.specs.Prelude.{◌≡◌};
+ghost use Rattle.joint.specs.Index.{index_a, index_b};
 ghost use Rattle.direct.specs.Direct as D;
 ghost use Rattle.direct.specs.Steps as S;
 
-use crate::Answer;
-use constraint::answer::NO_REPORT;
-use joint::index::{index_cause, indices_of};
-use records::joint::{JointSim, JointUnion};
+use joint::index::{check_indices, indices_of};
+use joint::kind::Kind;
+use records::joint::JointUnion;
+use records::refusal::Cause;
 
-// The answer, and the positions of the two states among n, where n is the position of none.
+// The positions of the two states among n, where n is the position of none, and the first cause of a
+// refusal.
 #[derive(Clone, Copy)]
 pub struct Positions {
-    pub answer: Answer,
     pub a: usize,
     pub b: usize,
+    pub refused: Option<Cause>,
 }
 
-// Whether the joint's case is the kind, by its number. The empty case is of no kind.
-fn is_of_kind(kind: u8, union_: JointUnion) -> bool
-    ensures { result ≡ D.is_of_kind kind union_ }
-{
-    match union_ {
-        JointUnion::Revolute(_) => kind == 0,
-        JointUnion::Spherical(_) => kind == 1,
-        JointUnion::Weld(_) => kind == 2,
-        JointUnion::Other => false,
-    }
-}
-
-// The first cause of a refusal, or 0.
+// The first cause of a refusal, if there is one.
 #[tactic(auto, unfolding(crate::specs::Direct::cause))]
-fn cause_of(kind: u8, union_: JointUnion, n: usize) -> u32
-    ensures { result ≡ D.cause kind union_ n }
+fn cause_of<K: Kind>(union_: JointUnion, n: usize) -> Option<Cause>
+    ensures { D.refused_number result ≡ D.cause K.kind union_ n }
 {
-    if is_of_kind(kind, union_) {
-        return index_cause(n, union_);
+    if !K::is_of(union_) {
+        return Some(Cause::Kind);
     }
-    1
+    check_indices(n, union_).err()
 }
 
 fn position_of(n: usize, index: i32) -> usize
@@ -48,27 +38,22 @@ fn position_of(n: usize, index: i32) -> usize
     index as usize
 }
 
-// What a call of a kind answers, and the positions of the joint's two states if it is not refused. The cases
-// of -1 return apart: the compiler then makes up to 32 instructions less of a warm start.
-pub fn find_positions(kind: u8, joint: JointSim, n: usize) -> Positions
-    ensures { result ≡ S.positions_of kind joint n }
+// The cases of -1 return apart: the compiler then makes up to 32 instructions less of a warm start.
+pub fn find_positions<K: Kind>(union_: JointUnion, n: usize) -> Positions
+    ensures refused { D.refused_number result.refused ≡ D.cause K.kind union_ n }
+    ensures a { result.a ≡ S.position_of n (index_a union_) }
+    ensures b { result.b ≡ S.position_of n (index_b union_) }
 {
-    let union_ = joint.union_;
-    let number = cause_of(kind, union_, n);
-    let answer = Answer {
-        number,
-        place: 0,
-        report: NO_REPORT,
-    };
+    let refused = cause_of::<K>(union_, n);
     let i = indices_of(union_);
     if i.a < 0 {
         let b = position_of(n, i.b);
-        return Positions { answer, a: n, b };
+        return Positions { a: n, b, refused };
     }
     let a = position_of(n, i.a);
     if i.b < 0 {
-        return Positions { answer, a, b: n };
+        return Positions { a, b: n, refused };
     }
     let b = position_of(n, i.b);
-    Positions { answer, a, b }
+    Positions { a, b, refused }
 }

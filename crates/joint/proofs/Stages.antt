@@ -2,7 +2,7 @@
 -- keeps and reads. Assumes nothing.
 --     warm_start_of, solve_of      `warm_start_revolute_joint`, say, is `warm_start_of 0`
 use mathlib.Core.Path.{◌≡◌, refl, sym}
-use mathlib.Core.Bool.{Bool, cond}
+use mathlib.Core.Bool.{Bool}
 use Prim.Native.Nat.{ℕ, ◌<◌}
 use native.Mathlib.Omega.{arith}
 use lib.Dec.{eqb}
@@ -12,26 +12,12 @@ use Rattle.records.specs.declared.joint.JointSim.{JointSim}
 use Rattle.records.specs.declared.joint.JointUnion.{JointUnion}
 use Rattle.records.specs.declared.joint.JointUnion.TheVariants.{Revolute, Spherical, Weld, Other}
 use Rattle.records.specs.Joint.{case_of}
-use Rattle.constraint.specs.Answer.{WarmStartedAnswer}
-use Rattle.constraint.specs.Answer.{SolvedAnswer}
-use Rattle.revolute.specs.Revolute.{warm_start_revolute_joint, solve_revolute_joint}
-use Rattle.spherical.specs.Spherical.{warm_start_spherical_joint, solve_spherical_joint}
-use Rattle.weld.specs.Weld.{warm_start_weld_joint, solve_weld_joint}
 use Rattle.revolute.proofs.Facts as Revolute-facts
 use Rattle.spherical.proofs.Facts as Spherical-facts
 use Rattle.weld.proofs.Facts as Weld-facts
-use Rattle.joint.specs.Stage.{warm_start_as, warm_start_joint, solve_as, solve_joint, stage_joint}
+use Rattle.joint.specs.Stage.{warm_start_as, warm_start_joint, solve_as, solve_joint, stage_joint, warm_start_of, solve_of}
 
 -- ---- by the kind's number
-
-abbrev pub warm_start_of : ℕ → JointSim → BodyState → BodyState → WarmStartedAnswer
-warm_start_of kind joint a b =
-    cond (eqb kind 0) (warm_start_revolute_joint joint a b) (cond (eqb kind 1) (warm_start_spherical_joint joint a b) (warm_start_weld_joint joint a b))
-
-abbrev pub solve_of : ℕ → JointSim → StepContext → BodyState → BodyState → Bool → SolvedAnswer
-solve_of kind joint context a b use_bias =
-    cond (eqb kind 0) (solve_revolute_joint joint context a b use_bias)
-    (cond (eqb kind 1) (solve_spherical_joint joint context a b use_bias) (solve_weld_joint joint context a b use_bias))
 
 module _ (joint : JointSim) (a b : BodyState) where
   warm_start_by : (u : JointUnion) → case_of u < 3 → warm_start_of (case_of u) joint a b ≡ warm_start_as u joint a b

@@ -1,4 +1,5 @@
 -- Prepare of a joint of any kind. Definitions only. Assumes nothing.
+use Rattle.std.specs.Prelude.{cond, ℕ, eqb}
 use Rattle.solver.specs.declared.StepContext.{StepContext}
 use Rattle.records.specs.declared.body.BodyRecord.{BodyRecord}
 use Rattle.records.specs.declared.joint.JointSim.{JointSim}
@@ -19,3 +20,9 @@ prepare_as Other joint context body_a body_b = not_prepared joint
 
 abbrev pub prepare_joint : JointSim → StepContext → BodyRecord → BodyRecord → PreparedAnswer
 prepare_joint joint context body_a body_b = prepare_as joint.union_ joint context body_a body_b
+
+-- the prepare of a kind, by the number of its case: 0 revolute, 1 spherical, 2 weld
+abbrev pub prepare_of : ℕ → JointSim → StepContext → BodyRecord → BodyRecord → PreparedAnswer
+prepare_of kind joint context body_a body_b =
+    cond (eqb kind 0) (prepare_revolute_joint joint context body_a body_b)
+    (cond (eqb kind 1) (prepare_spherical_joint joint context body_a body_b) (prepare_weld_joint joint context body_a body_b))

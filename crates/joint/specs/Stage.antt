@@ -33,6 +33,17 @@ solve_as Other joint context state_a state_b use_bias = not_solved joint state_a
 abbrev pub solve_joint : JointSim → StepContext → BodyState → BodyState → Bool → SolvedAnswer
 solve_joint joint context state_a state_b use_bias = solve_as joint.union_ joint context state_a state_b use_bias
 
+-- the stages of a kind, by the number of its case: 0 revolute, 1 spherical, 2 weld
+abbrev pub warm_start_of : ℕ → JointSim → BodyState → BodyState → WarmStartedAnswer
+warm_start_of kind joint state_a state_b =
+    cond (eqb kind 0) (warm_start_revolute_joint joint state_a state_b)
+    (cond (eqb kind 1) (warm_start_spherical_joint joint state_a state_b) (warm_start_weld_joint joint state_a state_b))
+
+abbrev pub solve_of : ℕ → JointSim → StepContext → BodyState → BodyState → Bool → SolvedAnswer
+solve_of kind joint context state_a state_b use_bias =
+    cond (eqb kind 0) (solve_revolute_joint joint context state_a state_b use_bias)
+    (cond (eqb kind 1) (solve_spherical_joint joint context state_a state_b use_bias) (solve_weld_joint joint context state_a state_b use_bias))
+
 -- what a stage leaves, the joint and the velocities of its two bodies, and what it reports
 pub record Staged : Type 0 where
   pub joint : JointSim

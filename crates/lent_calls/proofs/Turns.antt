@@ -4,7 +4,7 @@ use Rattle.std.proofs.lemmas.List.{take_min, drop_all, length-take, length-drop,
 use Rattle.records.specs.declared.body.BodyState.{BodyState}
 use Rattle.records.specs.declared.joint.JointSim.{JointSim}
 use Rattle.direct.specs.declared.Answer.{Answer}
-use Rattle.direct.specs.declared.call.StageCall.{StageCall}
+use Rattle.direct.specs.Direct.{StageCall}
 use Rattle.direct.specs.Direct.{direct_call, Leaves}
 use Rattle.direct.proofs.Proved.{changes}
 use Rattle.lent_calls.specs.declared.Lent.{Lent}

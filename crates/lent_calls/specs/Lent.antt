@@ -5,7 +5,7 @@ use Rattle.records.specs.declared.body.BodyState.{BodyState}
 use Rattle.records.specs.declared.joint.JointSim.{JointSim}
 use Rattle.constraint.specs.Answer.{no_report}
 use Rattle.direct.specs.declared.Answer.{Answer}
-use Rattle.direct.specs.declared.call.StageCall.{StageCall}
+use Rattle.direct.specs.Direct.{StageCall}
 use Rattle.direct.specs.Direct.{answer_of, Outcome, direct_call}
 use Rattle.lent_calls.specs.declared.Lent.{Lent}
 
