@@ -7,11 +7,9 @@ use sqrt::sqrt;
 pub fn roots(calls: u64) -> u32 {
     let mut x = 0.5f32;
     let mut total = 0.0f32;
-    let mut n = 0u64;
-    while n < calls {
-        total = total + sqrt(x);
-        x = x + 0.5;
-        n += 1;
+    for _ in 0..calls {
+        total += sqrt(x);
+        x += 0.5;
     }
     add_float(0, total)
 }
@@ -21,13 +19,11 @@ pub fn arctangents(calls: u64) -> u32 {
     let mut x = 1.0f32;
     let mut y = 0.0f32;
     let mut total = 0.0f32;
-    let mut n = 0u64;
-    while n < calls {
-        total = total + atan2(y, x);
+    for _ in 0..calls {
+        total += atan2(y, x);
         let turned = 0.8 * x - 0.6 * y;
         y = 0.6 * x + 0.8 * y;
         x = turned;
-        n += 1;
     }
     add_float(0, total)
 }

@@ -1,49 +1,40 @@
-// Works a row of the bench a number of times, and prints its checksum: `bench ROW REPEATS`. With
-// fewer arguments it works each row once, and prints for each its number and its checksum.
+// The call lists, a kind of joints and a kind of list to a row, then the two leaves: the rows of
+// `bench ROW REPEATS`, as bench_wall's `work_rows` tells.
 #![tactic(auto)]
 
 mod leaves;
 mod lists;
 
-ghost use Rattle.std.specs.Prelude.{◌<◌};
-
-use bench_wall::arguments::{argument, has_argument};
-use bench_wall::rows::{write_checksum, write_row};
+use bench_wall::rows::work_rows;
+use bench_wall::wall::Kind;
 use leaves::{arctangents, roots};
 use lists::run_lists;
 use std::io;
 
-// A row for each kind of joints and each kind of list, then the two leaves.
-const ROWS: u8 = 18;
-
-// The checksum of a row. Each repeat makes 4,096 calls.
-fn work(row: u8, repeats: u64) -> u32
-    requires { repeats < 1000000000 }
-{
-    match row {
-        16 => roots(4096 * repeats),
-        17 => arctangents(4096 * repeats),
-        _ => run_lists(row / 4, row % 4, repeats),
+// A row for each kind and each stage, and at the fourth of either the three in turn.
+fn kind_of(number: u8) -> Option<Kind> {
+    match number {
+        0 => Some(Kind::Revolute),
+        1 => Some(Kind::Spherical),
+        2 => Some(Kind::Weld),
+        _ => None,
     }
 }
 
-fn write_rows(rt: &impl Print) -> io::Result<()> {
-    let mut row = 0u8;
-    while row < ROWS {
-        write_row(rt, row, work(row, 1))?;
-        row += 1;
+// The checksum of a row. Each repeat makes 4,096 calls.
+fn work(row: u8, repeats: u32) -> u32 {
+    let calls = 4096 * u64::from(repeats);
+    match row {
+        16 => roots(calls),
+        17 => arctangents(calls),
+        _ => run_lists(
+            kind_of(row / 4),
+            Some(row % 4).filter(|stage| *stage < 3),
+            repeats,
+        ),
     }
-    Ok(())
 }
 
 fn main(rt: HostRuntime) -> io::Result<()> {
-    if !has_argument(&rt, 2) {
-        return write_rows(&rt);
-    }
-    let row = argument(&rt, 1);
-    let repeats = argument(&rt, 2);
-    if row < ROWS as u64 {
-        return write_checksum(&rt, work(row as u8, repeats));
-    }
-    Ok(())
+    work_rows(&rt, 0..18, work)
 }

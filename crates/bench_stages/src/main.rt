@@ -1,59 +1,34 @@
-// The stages by value, a kind and a stage to a row: `bench_stages ROW REPEATS` prints the row's
-// checksum. With fewer arguments each row is worked once, and its number and checksum are printed.
+// The stages by value, a kind and a stage to a row: the rows of `bench_stages ROW REPEATS`, as
+// bench_wall's `work_rows` tells.
 #![tactic(auto)]
 
 mod gates;
 mod prepared;
-mod revolute_rows;
-mod spherical_rows;
-mod weld_rows;
+mod rows;
+mod stages;
 
-ghost use Rattle.std.specs.Prelude.{◌<◌};
-
-use bench_wall::arguments::{argument, has_argument};
-use bench_wall::rows::{write_checksum, write_row};
+use bench_wall::rows::work_rows;
+use rows::{prepares, solves, warm_starts};
+use stages::{Revolute, Spherical, Weld};
 use std::io;
 
-// The rows of the bench before these are the program bench's.
-const FIRST: u8 = 18;
-
-const END: u8 = 30;
-
 // The checksum of a row. Each repeat makes 4,096 calls.
-fn work(row: u8, repeats: u64) -> u32
-    requires { repeats < 1000000000 }
-{
-    let calls = 4096 * repeats;
+fn work(row: u8, repeats: u32) -> u32 {
+    let calls = 4096 * u64::from(repeats);
     match row {
-        18 => revolute_rows::warm_starts(calls),
-        19 | 20 => revolute_rows::solves(row == 19, calls),
-        21 => revolute_rows::prepares(calls),
-        22 => spherical_rows::warm_starts(calls),
-        23 | 24 => spherical_rows::solves(row == 23, calls),
-        25 => spherical_rows::prepares(calls),
-        26 => weld_rows::warm_starts(calls),
-        27 | 28 => weld_rows::solves(row == 27, calls),
-        _ => weld_rows::prepares(calls),
+        18 => warm_starts::<Revolute>(calls),
+        19 | 20 => solves::<Revolute>(row == 19, calls),
+        21 => prepares::<Revolute>(calls),
+        22 => warm_starts::<Spherical>(calls),
+        23 | 24 => solves::<Spherical>(row == 23, calls),
+        25 => prepares::<Spherical>(calls),
+        26 => warm_starts::<Weld>(calls),
+        27 | 28 => solves::<Weld>(row == 27, calls),
+        _ => prepares::<Weld>(calls),
     }
 }
 
-fn write_rows(rt: &impl Print) -> io::Result<()> {
-    let mut row = FIRST;
-    while row < END {
-        write_row(rt, row, work(row, 1))?;
-        row += 1;
-    }
-    Ok(())
-}
-
+// The rows of the bench before these are the program bench's.
 fn main(rt: HostRuntime) -> io::Result<()> {
-    if !has_argument(&rt, 2) {
-        return write_rows(&rt);
-    }
-    let row = argument(&rt, 1);
-    let repeats = argument(&rt, 2);
-    if FIRST as u64 <= row && row < END as u64 {
-        return write_checksum(&rt, work(row as u8, repeats));
-    }
-    Ok(())
+    work_rows(&rt, 18..30, work)
 }

@@ -53,16 +53,11 @@ fn add_union(sum: u32, union_: JointUnion) -> u32 {
 }
 
 fn add_prepared(sum: u32, joint: JointSim) -> u32 {
-    let union_ = joint.union_;
-    add_union(add_base(sum, joint.base), union_)
+    add_union(add_base(sum, joint.base), joint.union_)
 }
 
 pub fn sum_prepared(joints: [JointSim; 32]) -> u32 {
-    let mut sum = 0u32;
-    let mut k: usize = 0;
-    while k < 32 {
-        sum = add_prepared(sum, joints[k]);
-        k += 1;
-    }
-    sum
+    joints
+        .iter()
+        .fold(0, |sum, joint| add_prepared(sum, *joint))
 }

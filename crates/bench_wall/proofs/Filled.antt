@@ -1,27 +1,30 @@
--- Filling an array of 32 elements one after the other with the values of a function. Assumes nothing.
+-- An array whose elements are what a closure gives at each index. Assumes nothing.
 use mathlib.Core.Path.{◌≡◌, refl, sym, subst, ◌∙◌}
 use mathlib.Core.List.{List}
-use Prim.Native.Nat.{ℕ, ◌+◌, ◌<◌}
+use Prim.Native.Nat.{ℕ, zero, suc, ◌+◌, ◌<◌}
 use native.Mathlib.Numerals.{add-one}
 use native.Mathlib.Omega.{arith}
-use lib.ListN.{length, take, set, replicate, length-set, length-replicate}
-use lib.Seq.{take_all, take-suc-set}
+use denote.Param.Members.{Mut, Called}
+use lib.ListN.{length, take}
+use lib.Seq.{take_all, take-suc}
+use Rattle.std.specs.Array.{IsFromFnResult, IsFromFnResultFrom}
 use Rattle.bench_wall.specs.Wall.{each}
 
-module _ {A : Type 0} (f : ℕ → A) where
-  -- the first k elements are what they must be
-  abbrev pub Filled : List A → ℕ → Type 0
-  Filled l k = (length l ≡ 32) × (take k l ≡ each k f)
+module _ {F B : Type 0} (g : Mut F (ℕ × Unit {0}) B) (f : F) (h : ℕ → B) (n : ℕ) where
+  -- a call at i gives h i, and leaves the closure as it is
+  abbrev pub Gives : Type 0
+  Gives = (i : ℕ) (y : B) (q : F) → i < n → Called g f (i, tt) y q → (y ≡ h i) × (q ≡ f)
 
-  pub filled_none : (a : A) → Filled (replicate 32 a) 0
+  module _ (gives : Gives) (l : List B) (long : length l ≡ n) where
+    made_from : (i m : ℕ) → i + m ≡ n → take i l ≡ each i h → IsFromFnResultFrom g f l i m → l ≡ each n h
+    unfolding each
+    made_from i zero e t p = sym (take_all n l (omega arith)) ∙ subst (λ k. take k l ≡ each k h) (omega arith) t
+    made_from i (suc m) e t (q, y, at, called, p) =
+        let given = gives i y q (omega arith) called in
+        made_from (i + 1) m (omega arith)
+        (rw (add-one i, take-suc l i y (omega arith), t, at.0, given.0))
+        (subst (λ s. IsFromFnResultFrom g s l (i + 1) m) given.1 p)
+
+  pub made : Gives → (l : List B) → IsFromFnResult g f l n → l ≡ each n h
   unfolding each
-  filled_none a = (length-replicate 32 a, refl)
-
-  pub filled_more : (l : List A) (k : ℕ) (a : A) → k < 32 → a ≡ f k → Filled l k → Filled (set l k a) (k + 1)
-  unfolding each
-  filled_more l k a h e (n, p) =
-      let m : k < length l = omega arith in
-      (length-set l k a ∙ n, rw (add-one k, take-suc-set l k a m, p, e))
-
-  pub filled_all : (l : List A) (k : ℕ) → k ≡ 32 → Filled l k → l ≡ each 32 f
-  filled_all l k e (n, p) = sym (take_all 32 l (omega arith)) ∙ subst (λ m. take m l ≡ each m f) e p
+  made gives l p = made_from gives l p.long 0 n (omega arith) refl p.each

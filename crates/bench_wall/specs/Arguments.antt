@@ -1,19 +1,10 @@
 -- The number that an argument names. Definitions only. Assumes nothing.
-use Rattle.std.specs.Prelude.{Bool, true, cond, ◌&&◌, List, [], ◌∷◌, ℕ, ◌+◌, ◌-◌, ◌*◌, ltb}
+use Rattle.std.specs.Prelude.{cond, ◌&&◌, List, length, Option, Some, None, ℕ, ltb}
+use Rattle.std.specs.Char.{is_ascii_digit}
+use Rattle.std.specs.List.{list_all}
+use Rattle.std.specs.Str.Parse.{digits_value}
 
--- what a byte adds as a digit: 0 to 9 for '0' to '9', and 10 or more for any other byte
-unfoldable pub digit : ℕ → ℕ
-digit byte = cond (ltb byte 48) 10 (byte - 48)
-
-abbrev pub are_digits : List ℕ → Bool
-are_digits [] = true
-are_digits (byte ∷ text) = ltb (digit byte) 10 && are_digits text
-
--- the number that digits go on to name after those of n
-abbrev pub after : ℕ → List ℕ → ℕ
-after n [] = n
-after n (byte ∷ text) = after (n * 10 + digit byte) text
-
--- the number that a text of digits names, leading zeros or not; 0 for any other text, and for a number of more than nine digits
-unfoldable pub number : List ℕ → ℕ
-number text = cond (are_digits text && ltb (after 0 text) 1000000000) (after 0 text) 0
+-- the number that a text of digits names, leading zeros or not; none for any other text, the empty one among them, and for a number of more than nine digits
+unfoldable pub number : List ℕ → Option ℕ
+number text =
+    cond (list_all is_ascii_digit text && (ltb 0 (length text) && ltb (digits_value 10 text) 1000000000)) (Some (digits_value 10 text)) None

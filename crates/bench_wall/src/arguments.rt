@@ -1,58 +1,51 @@
 // The arguments of a timed program: numbers.
 ghost use Rattle.std.specs.Prelude.{◌≡◌, ◌<◌};
+ghost use Rattle.std.specs.Char.{is_ascii_digit};
+ghost use Rattle.std.specs.List.{list_all};
 ghost use Rattle.bench_wall.specs.Arguments as D;
 
 use std::env::{Env, FillError};
 
-// What a byte adds as a digit; 10 or more for one that is no digit.
-#[tactic(auto, unfolding(crate::specs::Arguments::digit))]
-fn digit(byte: u8) -> u64
-    ensures { result ≡ D.digit byte }
+fn are_digits(text: &[u8]) -> bool
+    ensures { result ≡ list_all is_ascii_digit text.now }
 {
-    if byte < b'0' {
-        return 10;
-    }
-    (byte - b'0') as u64
+    text.iter().all(|byte| byte.is_ascii_digit())
 }
 
-// The number that a text of digits names; 0 for any other text, and for a number of more than nine
-// digits.
-#[tactic(auto, unfolding(crate::specs::Arguments::number))]
-fn number(text: &[u8]) -> u64
+// The number that a text of digits names; none for any other text, a sign before digits among them, and
+// for a number of more than nine digits.
+fn number(text: &[u8]) -> Option<u32>
     ensures { result ≡ D.number text.now }
 {
-    let mut n = 0u64;
-    let mut i: usize = 0;
-    while i < text.len() {
-        let d = digit(text[i]);
-        if 9 < d {
-            return 0;
-        }
-        if 100000000 <= n {
-            return 0;
-        }
-        n = n * 10 + d;
-        i += 1;
+    if !are_digits(text) {
+        return None;
     }
-    n
+    let Ok(digits) = str::from_utf8(text) else {
+        return None;
+    };
+    let Ok(number) = digits.parse::<u32>() else {
+        return None;
+    };
+    if number < 1000000000 {
+        Some(number)
+    } else {
+        None
+    }
 }
 
 // Whether the program was started with an argument i.
 pub fn has_argument(rt: &impl Env, i: usize) -> bool {
-    let mut text = [0u8; 1];
-    match rt.arg(i, &mut text) {
-        Err(FillError::NotPresent) => false,
-        _ => true,
-    }
+    !matches!(rt.arg(i, &mut [0u8; 1]), Err(FillError::NotPresent))
 }
 
-// The number that argument i names; 0 for one that is missing, or that is longer than 4,096 bytes.
-pub fn argument(rt: &impl Env, i: usize) -> u64
+// The number that argument i names; 0 for one that is missing, that names none, or that is longer than
+// 4,096 bytes.
+pub fn argument(rt: &impl Env, i: usize) -> u32
     ensures { result < 1000000000 }
 {
     let mut text = [0u8; 4096];
     match rt.arg(i, &mut text) {
-        Ok(length) => number(&text[..length]),
+        Ok(length) => number(&text[..length]).unwrap_or(0),
         Err(_) => 0,
     }
 }

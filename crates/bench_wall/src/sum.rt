@@ -14,7 +14,7 @@ const PRIME: u64 = 4294967291;
 pub fn add_word(sum: u32, word: u32) -> u32
     ensures { result ≡ D.add_word sum word }
 {
-    let wide = (sum as u64) * 16777619 + (word as u64);
+    let wide = u64::from(sum) * 16777619 + u64::from(word);
     (wide % PRIME) as u32
 }
 
@@ -23,10 +23,10 @@ pub fn add_word(sum: u32, word: u32) -> u32
 pub fn add_float(sum: u32, x: f32) -> u32
     ensures { result ≡ D.add_float sum x }
 {
-    if x != x {
+    if x.is_nan() {
         return add_word(sum, 0x7fc0_0000);
     }
-    add_word(sum, f32::to_bits(x))
+    add_word(sum, x.to_bits())
 }
 
 #[tactic(auto, unfolding(crate::specs::Sum::add_vec3))]
@@ -87,6 +87,5 @@ fn add_velocities(sum: u32, state: BodyState) -> u32
 pub fn add_gate(sum: u32, joint: JointSim, state: BodyState) -> u32
     ensures { result ≡ D.add_gate sum joint state }
 {
-    let union_ = joint.union_;
-    add_velocities(add_impulses(sum, union_), state)
+    add_velocities(add_impulses(sum, joint.union_), state)
 }

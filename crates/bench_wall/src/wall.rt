@@ -11,30 +11,36 @@ use models::{Model, STEP, prepare};
 use records::body::{BodyRecord, BodyState};
 use records::joint::JointSim;
 use scene::Scene;
+use std::array;
 
-// 0 is the door's joint, 1 the hip's and 2 the strut's; any other kind takes them in turn.
-#[tactic(auto, unfolding(crate::specs::Wall::gate_case))]
-fn gate_case(kind: u8, k: u8) -> u8
-    ensures { result ≡ D.gate_case kind k }
-{
-    if kind < 3 {
-        return kind;
-    }
-    k % 3
+// Of which kind a joint is.
+#[derive(Clone, Copy)]
+pub enum Kind {
+    Revolute,
+    Spherical,
+    Weld,
 }
 
-#[tactic(auto, unfolding(crate::specs::Wall::model_of))]
-fn model_of(kind: u8, k: u8) -> Model
+// The kind of gate k: that of the wall, or the three in turn.
+fn gate_kind(kind: Option<Kind>, k: u8) -> Kind
+    ensures { result ≡ D.gate_kind kind k }
+{
+    match (kind, k % 3) {
+        (Some(kind), _) => kind,
+        (None, 0) => Kind::Revolute,
+        (None, 1) => Kind::Spherical,
+        _ => Kind::Weld,
+    }
+}
+
+fn model_of(kind: Option<Kind>, k: u8) -> Model
     ensures { result ≡ D.model_of kind k }
 {
-    let case = gate_case(kind, k);
-    if case == 0 {
-        return door(k);
+    match gate_kind(kind, k) {
+        Kind::Revolute => door(k),
+        Kind::Spherical => hip(k, k),
+        Kind::Weld => strut(k),
     }
-    if case == 1 {
-        return hip(k, k);
-    }
-    strut(k)
 }
 
 // Gate k's body; gate 0 stands at the origin.
@@ -42,7 +48,7 @@ fn model_of(kind: u8, k: u8) -> Model
 fn gate_body(k: u8) -> BodyRecord
     ensures { result ≡ D.gate_body k }
 {
-    slab(k, k as f32)
+    slab(k, f32::from(k))
 }
 
 // What gate k hangs on.
@@ -58,7 +64,7 @@ pub fn body_before(k: u8) -> BodyRecord
 
 // Gate k before prepare.
 #[tactic(auto, unfolding(crate::specs::Wall::gate))]
-fn gate(kind: u8, k: u8) -> Model
+fn gate(kind: Option<Kind>, k: u8) -> Model
     ensures { result ≡ D.gate kind k }
 {
     let mut gate = model_of(kind, k);
@@ -67,22 +73,21 @@ fn gate(kind: u8, k: u8) -> Model
     gate
 }
 
-fn prepared_joint(kind: u8, k: u8) -> JointSim
+fn prepared_joint(kind: Option<Kind>, k: u8) -> JointSim
     ensures { result ≡ D.prepared_joint kind k }
 {
     prepare(gate(kind, k), STEP).joint
 }
 
 #[tactic(auto, unfolding(crate::specs::Wall::unprepared_joint))]
-fn unprepared_joint(kind: u8, k: u8) -> JointSim
+fn unprepared_joint(kind: Option<Kind>, k: u8) -> JointSim
     ensures { result ≡ D.unprepared_joint kind k }
 {
-    let gate = model_of(kind, k);
-    gate.joint
+    model_of(kind, k).joint
 }
 
 #[tactic(auto, unfolding(crate::specs::Wall::joint_of))]
-fn joint_of(kind: u8, k: u8, is_prepared: bool) -> JointSim
+fn joint_of(kind: Option<Kind>, k: u8, is_prepared: bool) -> JointSim
     ensures { result ≡ D.joint_of kind k is_prepared }
 {
     if is_prepared {
@@ -91,16 +96,10 @@ fn joint_of(kind: u8, k: u8, is_prepared: bool) -> JointSim
     unprepared_joint(kind, k)
 }
 
-fn joints_of(kind: u8, is_prepared: bool) -> [JointSim; 32]
+fn joints_of(kind: Option<Kind>, is_prepared: bool) -> [JointSim; 32]
     ensures { result ≡ D.joints_of kind is_prepared }
 {
-    let mut joints = [joint_of(kind, 0, is_prepared); 32];
-    let mut k = 0u8;
-    while k < 32 {
-        joints[k as usize] = joint_of(kind, k, is_prepared);
-        k += 1;
-    }
-    joints
+    array::from_fn(|k| joint_of(kind, k as u8, is_prepared))
 }
 
 // Each gate moves and turns a little more than the one before it.
@@ -108,7 +107,7 @@ fn gate_state(k: u8) -> BodyState
     ensures { result ≡ D.gate_state k }
 {
     let mut state = moving(0.25);
-    let more = 0.03125 * (k as f32);
+    let more = 0.03125 * f32::from(k);
     let less = 0.5 - more;
     let turn = 0.03 * more;
     state.linear_velocity.y = more;
@@ -121,16 +120,10 @@ fn gate_state(k: u8) -> BodyState
 fn gate_states() -> [BodyState; 32]
     ensures { result ≡ D.gate_states }
 {
-    let mut states = [gate_state(0); 32];
-    let mut k = 0u8;
-    while k < 32 {
-        states[k as usize] = gate_state(k);
-        k += 1;
-    }
-    states
+    array::from_fn(|k| gate_state(k as u8))
 }
 
-fn wall_of(kind: u8, is_prepared: bool) -> Scene
+fn wall_of(kind: Option<Kind>, is_prepared: bool) -> Scene
     ensures { result ≡ D.wall_of kind is_prepared }
 {
     Scene {
@@ -144,14 +137,14 @@ fn wall_of(kind: u8, is_prepared: bool) -> Scene
 
 // The wall with its joints before prepare.
 #[tactic(auto, unfolding(crate::specs::Wall::unprepared_wall))]
-pub fn unprepared_wall(kind: u8) -> Scene
+pub fn unprepared_wall(kind: Option<Kind>) -> Scene
     ensures { result ≡ D.unprepared_wall kind }
 {
     wall_of(kind, false)
 }
 
 #[tactic(auto, unfolding(crate::specs::Wall::wall))]
-pub fn wall(kind: u8) -> Scene
+pub fn wall(kind: Option<Kind>) -> Scene
     ensures { result ≡ D.wall kind }
 {
     wall_of(kind, true)

@@ -5,4 +5,4 @@ use Rattle.bench_wall.proofs.wall.gate_state.Goals as goal
 
 pub returns : goal.returns
 unfolding gate_state Ieee.round Ieee.of_bits
-returns c = rw (← c.moving-state.ensures)
+returns c = rw (← c.moving-state.ensures, ← c.from-more.ensures)

@@ -1,6 +1,0 @@
--- The measure is the number of calls that are left.
-use Rattle.std.proofs.Common.{◌-◌}
-use Rattle.bench_stages.proofs.revolute_rows.warm_starts.Given as goal
-
-abbrev pub decreases-loop-call : goal.decreases-loop-call
-decreases-loop-call l = l.calls - l.call
