@@ -3,65 +3,64 @@
 // The two angles that a joint has beside the Rust's fields, and the marks of what may fall back to zeros,
 // are left aside where a case is the same or not, and are compared and counted apart: the Rust has nothing
 // to hold them to.
-use std::num::wrapping_add_u64;
+use crate::counts::Tally;
+use std::ops::BitAnd;
 
 #[derive(Clone, Copy)]
 pub struct Agreement {
     // Whether the answer is the recorded one, angles and marks left aside.
     pub same: bool,
-    // How many stored angles were compared, and how many of them are not the recorded ones.
-    pub angles: u64,
-    pub angles_differing: u64,
-    // The same of the marks.
-    pub marks: u64,
-    pub marks_differing: u64,
+    // The stored angles that were compared.
+    pub angles: Tally,
+    pub marks: Tally,
 }
 
-// One where something differs, for those who count.
-pub fn one_unless(same: bool) -> u64 {
-    if same { 0 } else { 1 }
-}
+impl Agreement {
+    // Of one stored angle.
+    pub fn of_angle(same: bool) -> Agreement {
+        Agreement {
+            same: true,
+            angles: Tally::one(same),
+            marks: Tally::default(),
+        }
+    }
 
-// Where no angle and no mark was compared.
-pub fn nothing_apart(same: bool) -> Agreement {
-    Agreement {
-        same,
-        angles: 0,
-        angles_differing: 0,
-        marks: 0,
-        marks_differing: 0,
+    // Of one mark.
+    pub fn of_mark(same: bool) -> Agreement {
+        Agreement {
+            same: true,
+            angles: Tally::default(),
+            marks: Tally::one(same),
+        }
+    }
+
+    // Whether all is the same, the angles too: so are the words that a joint was read from, which have no
+    // marks.
+    pub fn is_all(self) -> bool {
+        self.same & self.angles.is_same()
     }
 }
 
-// With one more part of the answer, which has no angles and no marks.
-pub fn if_also(same: bool, a: Agreement) -> Agreement {
-    both(nothing_apart(same), a)
-}
-
-// With one more mark compared.
-pub fn and_mark(a: Agreement, same: bool) -> Agreement {
-    Agreement {
-        same: a.same,
-        angles: a.angles,
-        angles_differing: a.angles_differing,
-        marks: wrapping_add_u64(a.marks, 1),
-        marks_differing: wrapping_add_u64(a.marks_differing, one_unless(same)),
+// Of what is neither an angle nor a mark.
+impl From<bool> for Agreement {
+    fn from(same: bool) -> Agreement {
+        Agreement {
+            same,
+            angles: Tally::default(),
+            marks: Tally::default(),
+        }
     }
 }
 
 // Of two parts of an answer.
-pub fn both(a: Agreement, b: Agreement) -> Agreement {
-    Agreement {
-        same: a.same & b.same,
-        angles: wrapping_add_u64(a.angles, b.angles),
-        angles_differing: wrapping_add_u64(a.angles_differing, b.angles_differing),
-        marks: wrapping_add_u64(a.marks, b.marks),
-        marks_differing: wrapping_add_u64(a.marks_differing, b.marks_differing),
-    }
-}
+impl BitAnd for Agreement {
+    type Output = Agreement;
 
-// Whether all is the same, the angles too: so are the words that a joint was read from, which have no
-// marks.
-pub fn is_all(a: Agreement) -> bool {
-    a.same & (a.angles_differing == 0)
+    fn bitand(self, other: Agreement) -> Agreement {
+        Agreement {
+            same: self.same & other.same,
+            angles: self.angles + other.angles,
+            marks: self.marks + other.marks,
+        }
+    }
 }

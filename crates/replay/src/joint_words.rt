@@ -1,120 +1,126 @@
-// The words of a joint: its base, its two angles, then the record of its case. A case is a number: 0
-// for the revolute joint, 1 for the spherical one, 2 for the weld joint, 3 for the empty case, which has
-// no record. Any other number reads as 3, which comparing tells from it.
-ghost use Rattle.std.specs.Prelude.{◌≤◌};
-
-use crate::agreement::{Agreement, is_all, one_unless};
-use crate::compare::same_float;
-use crate::record_words::{BASE_WORDS, base, same_base};
-use crate::words::{float, word, words_from};
-use crate::{revolute_words, spherical_words, weld_words};
-use joint::index::{Indices, indices_of};
+// The words of a joint: its base, its two angles, then the record of its case.
+use crate::agreement::Agreement;
+use crate::words::{Answer, Input, Words};
 use records::joint::{JointSim, JointUnion, LimitAngles, joint_sim};
-use std::num::wrapping_add_u64;
 
-// The number of the empty case.
-pub const OTHER: u32 = 3;
+// The case of a joint. It is a number: 0 for the revolute joint, 1 for the spherical one, 2 for the weld
+// joint, 3 for the empty case, which has no record.
+#[derive(Clone, Copy)]
+pub enum Kind {
+    Revolute,
+    Spherical,
+    Weld,
+    Other,
+}
 
-// How many words stand before the record of the case: the base, and the angles after it.
-const SHARED_WORDS: usize = BASE_WORDS + 2;
-
-// How many words a joint has.
-pub fn words_of(case: u32) -> usize
-    ensures { (48 ≤ result) × (result ≤ 116) }
-{
-    match case {
-        0 => SHARED_WORDS + revolute_words::WORDS,
-        1 => SHARED_WORDS + spherical_words::WORDS,
-        2 => SHARED_WORDS + weld_words::WORDS,
-        _ => SHARED_WORDS,
+impl Answer for Kind {
+    fn compare(self, words: &mut Words<'_>) -> Agreement {
+        words.compare(self as u32)
     }
 }
 
-fn record(case: u32, p: &[u8]) -> JointUnion {
-    match case {
-        0 => JointUnion::Revolute(revolute_words::record(p)),
-        1 => JointUnion::Spherical(spherical_words::record(p)),
-        2 => JointUnion::Weld(weld_words::record(p)),
-        _ => JointUnion::Other,
+// Any other number reads as 3, which comparing tells from it.
+impl Input for Kind {
+    fn read(words: &mut Words<'_>) -> Kind {
+        match words.word() {
+            0 => Kind::Revolute,
+            1 => Kind::Spherical,
+            2 => Kind::Weld,
+            _ => Kind::Other,
+        }
     }
 }
 
-// Whether a record is of this case, and the words are its.
-fn same_record(case: u32, p: &[u8], union_: JointUnion) -> bool {
-    match union_ {
-        JointUnion::Revolute(j) => revolute_words::same_record(case, p, j),
-        JointUnion::Spherical(j) => spherical_words::same_record(case, p, j),
-        JointUnion::Weld(j) => weld_words::same_record(case, p, j),
-        JointUnion::Other => case == OTHER,
+impl Kind {
+    pub fn of(joint: &JointSim) -> Kind {
+        match joint.union_ {
+            JointUnion::Revolute(_) => Kind::Revolute,
+            JointUnion::Spherical(_) => Kind::Spherical,
+            JointUnion::Weld(_) => Kind::Weld,
+            JointUnion::Other => Kind::Other,
+        }
+    }
+
+    fn record(self, words: &mut Words<'_>) -> JointUnion {
+        match self {
+            Kind::Revolute => JointUnion::Revolute(words.read()),
+            Kind::Spherical => JointUnion::Spherical(words.read()),
+            Kind::Weld => JointUnion::Weld(words.read()),
+            Kind::Other => JointUnion::Other,
+        }
+    }
+
+    // The joint of this case.
+    pub fn joint(self, words: &mut Words<'_>) -> JointSim {
+        let base = words.read();
+        let angles = words.read();
+        joint_sim(base, self.record(words), angles)
     }
 }
 
-fn angles(p: &[u8]) -> LimitAngles {
-    LimitAngles {
-        twist: float(p, 0),
-        swing: float(p, 1),
+impl Input for LimitAngles {
+    fn read(words: &mut Words<'_>) -> LimitAngles {
+        LimitAngles {
+            twist: words.read(),
+            swing: words.read(),
+        }
     }
 }
 
-pub fn joint(case: u32, p: &[u8]) -> JointSim {
-    joint_sim(
-        base(p),
-        record(case, words_from(p, SHARED_WORDS)),
-        angles(words_from(p, BASE_WORDS)),
-    )
-}
-
-// The body indices of a joint.
-pub fn indices(case: u32, p: &[u8]) -> Indices {
-    indices_of(record(case, words_from(p, SHARED_WORDS)))
-}
-
-// A part of an answer that has two angles, whose words are these.
-pub fn with_angles(same: bool, p: &[u8], angles: LimitAngles) -> Agreement {
-    Agreement {
-        same,
-        angles: 2,
-        angles_differing: wrapping_add_u64(
-            one_unless(same_float(p, 0, angles.twist)),
-            one_unless(same_float(p, 1, angles.swing)),
-        ),
-        marks: 0,
-        marks_differing: 0,
+// The angles are counted apart.
+impl Answer for LimitAngles {
+    fn compare(self, words: &mut Words<'_>) -> Agreement {
+        let twist = words.compare(self.twist);
+        let swing = words.compare(self.swing);
+        Agreement::of_angle(twist.same) & Agreement::of_angle(swing.same)
     }
 }
 
-// Whether a joint is of this case, and the words are its, the angles left aside.
-pub fn same_fields(case: u32, p: &[u8], joint: JointSim) -> bool {
-    let union_ = joint.union_;
-    same_record(case, words_from(p, SHARED_WORDS), union_) & same_base(p, joint.base)
+// What is to be the record of a case.
+#[derive(Clone, Copy)]
+struct UnionOfKind(Kind, JointUnion);
+
+// Whether a record is of the case, and the words are its. Where it is not, those of the case's are passed.
+impl Answer for UnionOfKind {
+    fn compare(self, words: &mut Words<'_>) -> Agreement {
+        match (self.0, self.1) {
+            (Kind::Revolute, JointUnion::Revolute(j)) => words.compare(j),
+            (Kind::Spherical, JointUnion::Spherical(j)) => words.compare(j),
+            (Kind::Weld, JointUnion::Weld(j)) => words.compare(j),
+            (Kind::Other, JointUnion::Other) => Agreement::from(true),
+            (kind, _) => {
+                let _passed = kind.record(words);
+                Agreement::from(false)
+            }
+        }
+    }
 }
 
-pub fn same_joint(case: u32, p: &[u8], joint: JointSim) -> Agreement {
-    with_angles(
-        same_fields(case, p, joint),
-        words_from(p, BASE_WORDS),
-        joint.angles,
-    )
+// What is to be a joint of a case.
+#[derive(Clone, Copy)]
+pub struct OfKind(pub Kind, pub JointSim);
+
+impl Answer for OfKind {
+    fn compare(self, words: &mut Words<'_>) -> Agreement {
+        let joint = self.1;
+        words.compare(joint.base)
+            & words.compare(joint.angles)
+            & words.compare(UnionOfKind(self.0, joint.union_))
+    }
 }
 
-// Whether the words are those of a joint at all, as they are not where a switch is neither 0 nor 1.
-pub fn is_joint(case: u32, p: &[u8]) -> bool {
-    is_all(same_joint(case, p, joint(case, p)))
+// A joint after the number of its case.
+impl Answer for JointSim {
+    fn compare(self, words: &mut Words<'_>) -> Agreement {
+        let mut ahead = *words;
+        let kind: Kind = ahead.read();
+        words.compare(kind) & words.compare(OfKind(kind, self))
+    }
 }
 
-// Where the number of its case stands before a joint.
-pub fn cased_words(p: &[u8]) -> usize {
-    1 + words_of(word(p, 0))
-}
-
-pub fn cased_joint(p: &[u8]) -> JointSim {
-    joint(word(p, 0), words_from(p, 1))
-}
-
-pub fn is_cased_joint(p: &[u8]) -> bool {
-    is_joint(word(p, 0), words_from(p, 1))
-}
-
-pub fn same_cased_joint(p: &[u8], joint: JointSim) -> Agreement {
-    same_joint(word(p, 0), words_from(p, 1), joint)
+impl Input for JointSim {
+    fn read(words: &mut Words<'_>) -> JointSim {
+        let kind: Kind = words.read();
+        kind.joint(words)
+    }
 }

@@ -5,15 +5,14 @@
 #![tactic(auto)]
 
 mod agreement;
+mod case;
 mod cases;
-mod compare;
 mod counts;
 mod direct_calls;
 mod internal;
 mod joint_words;
-mod lent_words;
+mod leaf_words;
 mod lists;
-mod mark_words;
 mod matrix;
 mod quat;
 mod record_words;
@@ -22,8 +21,9 @@ mod scalar;
 mod scene_words;
 mod soft;
 mod spherical_words;
-mod stage_calls;
+mod stage_answers;
 mod stages;
+mod state_words;
 mod stop_codes;
 mod transform;
 mod values;
@@ -33,12 +33,13 @@ mod words;
 
 ghost use Rattle.std.specs.Prelude.{◌≤◌, length};
 
-use cases::run_cases;
-use counts::{Counts, no_cases, one_not_run, sum};
+use cases::{ROOM, and_one_not_run, run_cases};
+use counts::Counts;
 use std::env::FillError;
 use std::fs::File;
 use std::io;
 use std::io::Read;
+use std::ops::ControlFlow;
 use std::rt::{Env, Files};
 use std::str::from_utf8;
 
@@ -46,38 +47,31 @@ use std::str::from_utf8;
 #[derive(Clone, Copy)]
 struct State {
     counts: Counts,
-    // The bytes at the start of the buffer, of a case that is not whole yet.
-    kept: usize,
-    // The bytes still to come of a case that is too long for the buffer and has been counted.
-    skip: usize,
-    has_more: bool,
+    rest: Rest,
 }
 
-// The input has ended, or cannot be read. What was not run counts as a case that differs: one that
-// is cut short, or what could not be read.
-fn ended(s: State, is_broken: bool) -> State {
-    let mut t = s;
-    t.has_more = false;
-    if is_broken || s.kept > 0 {
-        t.counts = one_not_run(s.counts);
-    }
-    t
+// What stands between the cases that were run and what is read next.
+#[derive(Clone, Copy)]
+enum Rest {
+    // So many bytes at the start of the buffer, of a case that is not whole yet.
+    Kept(usize),
+    // So many bytes still to come of a case that is too long for the buffer and has been counted.
+    Skip(usize),
 }
 
-// Moves the bytes from `from` up to `end` to the start of the buffer, for the rest of their case to
-// be read after them.
-fn keep(buf: &mut [u8], from: usize, end: usize)
-    requires { end ≤ length buf.old }
-{
-    if from == 0 {
-        return;
+impl Rest {
+    fn kept(self) -> usize {
+        match self {
+            Rest::Kept(kept) => kept,
+            Rest::Skip(_) => 0,
+        }
     }
-    let mut to = 0usize;
-    let mut i = from;
-    while i < end {
-        buf[to] = buf[i];
-        to += 1;
-        i += 1;
+
+    fn skip(self) -> usize {
+        match self {
+            Rest::Kept(_) => 0,
+            Rest::Skip(skip) => skip,
+        }
     }
 }
 
@@ -85,74 +79,72 @@ fn keep(buf: &mut [u8], from: usize, end: usize)
 fn run_block(buf: &mut [u8], s: State, end: usize) -> State
     requires { end ≤ length buf.old }
 {
-    let mut t = s;
-    let skip = s.skip;
-    t.kept = 0;
+    let skip = s.rest.skip();
     if skip >= end {
-        t.skip = skip - end;
-        return t;
+        return State {
+            counts: s.counts,
+            rest: Rest::Skip(skip - end),
+        };
     }
     let there = end - skip;
-    let b = run_cases(&buf[skip..end]);
-    let used = b.used;
-    t.counts = sum(s.counts, b.counts);
-    if used > there {
-        t.skip = used - there;
-        return t;
+    let block = run_cases(&buf[skip..end]);
+    let counts = s.counts + block.counts;
+    if block.used > there {
+        return State {
+            counts,
+            rest: Rest::Skip(block.used - there),
+        };
     }
-    keep(buf, skip + used, end);
-    t.kept = there - used;
-    t.skip = 0;
-    t
-}
-
-// Reads once, after the bytes that were kept, and runs what is there.
-fn turn<R: Read>(buf: &mut [u8], input: &mut R, s: State) -> State {
-    let kept = s.kept;
-    if kept >= buf.len() {
-        return ended(s, true);
-    }
-    match input.read(&mut buf[kept..]) {
-        Ok(0) => ended(s, false),
-        Ok(got) => run_block(buf, s, kept + got),
-        Err(_) => ended(s, true),
-    }
-}
-
-// Before an input, with what the earlier ones came to.
-fn begun(counts: Counts) -> State {
+    buf.copy_within(skip + block.used..end, 0);
     State {
         counts,
-        kept: 0,
-        skip: 0,
-        has_more: true,
+        rest: Rest::Kept(there - block.used),
     }
 }
 
-// Runs one more input. A proved loop has to end, and nothing says that the input does. So the loop
-// counts its turns down, from a number that no run uses up.
-fn replay<R: Read>(buf: &mut [u8], input: &mut R, before: State) -> State {
-    let mut s = begun(before.counts);
-    let mut turns = u64::MAX;
-    while turns > 0 && s.has_more {
-        s = turn(buf, input, s);
-        turns -= 1;
+// Reads once, after the bytes that were kept, and runs what is there. Where the input has ended, or
+// cannot be read, what was not run counts as a case that differs: one that is cut short, or what could
+// not be read.
+fn turn<R: Read>(buf: &mut [u8], input: &mut R, s: State) -> ControlFlow<Counts, State> {
+    let kept = s.rest.kept();
+    if kept >= buf.len() {
+        return ControlFlow::Break(and_one_not_run(s.counts));
     }
-    s
+    match input.read(&mut buf[kept..]) {
+        Ok(0) if kept == 0 => ControlFlow::Break(s.counts),
+        Ok(0) | Err(_) => ControlFlow::Break(and_one_not_run(s.counts)),
+        Ok(got) => ControlFlow::Continue(run_block(buf, s, kept + got)),
+    }
+}
+
+// Runs one more input, after what the earlier ones came to. A proved loop has to end, and nothing says
+// that the input does. So the loop counts its turns, to a number that no run reaches.
+fn replay<R: Read>(buf: &mut [u8], input: &mut R, before: Counts) -> Counts {
+    let mut s = State {
+        counts: before,
+        rest: Rest::Kept(0),
+    };
+    for _ in 0..u64::MAX {
+        match turn(buf, input, s) {
+            ControlFlow::Continue(t) => s = t,
+            ControlFlow::Break(counts) => return counts,
+        }
+    }
+    s.counts
 }
 
 // Runs the file that argument i names. One that cannot be opened counts as one that cannot be read:
 // so does a name that is not UTF-8, since the library opens no other.
-fn replay_file<R: Files + Env>(rt: &R, buf: &mut [u8], i: usize, before: State) -> State {
+fn replay_file<R: Files + Env>(rt: &R, buf: &mut [u8], i: usize, before: Counts) -> Counts {
     let mut path = [0u8; 4096];
     let Ok(length) = rt.arg(i, &mut path) else {
-        return ended(before, true);
+        return and_one_not_run(before);
     };
     let Ok(name) = from_utf8(&path[..length]) else {
-        return ended(before, true);
+        return and_one_not_run(before);
     };
     let Ok(mut file) = File::open(rt, name) else {
-        return ended(before, true);
+        return and_one_not_run(before);
     };
     replay(buf, &mut file, before)
 }
@@ -162,30 +154,25 @@ fn has_arg(rt: &impl Env, i: usize) -> bool {
     !matches!(rt.arg(i, &mut []), Err(FillError::NotPresent))
 }
 
-fn replay_files<R: Files + Env>(rt: &R, buf: &mut [u8], before: State) -> State {
-    let mut s = before;
+fn replay_files<R: Files + Env>(rt: &R, buf: &mut [u8], before: Counts) -> Counts {
+    let mut counts = before;
     for i in 1..usize::MAX {
         if !has_arg(rt, i) {
             break;
         }
-        s = replay_file(rt, buf, i, s);
+        counts = replay_file(rt, buf, i, counts);
     }
-    s
-}
-
-fn print_line(rt: &impl Print, run: u64, differing: u64) -> io::Result<()> {
-    println!(rt; "{run} {differing}")
+    counts
 }
 
 fn print_counts(rt: &impl Print, c: Counts) -> io::Result<()> {
-    print_line(rt, c.run, c.differing)?;
-    print_line(rt, c.angles, c.angles_differing)?;
-    print_line(rt, c.marks, c.marks_differing)
+    rt.println(c.cases)?;
+    rt.println(c.angles)?;
+    rt.println(c.marks)
 }
 
 fn main(rt: HostRuntime) -> io::Result<()> {
-    let mut buf = [0u8; 65536];
-    let read = replay(&mut buf, &mut rt.stdin(), begun(no_cases()));
-    let s = replay_files(&rt, &mut buf, read);
-    print_counts(&rt, s.counts)
+    let mut buf = [0u8; ROOM];
+    let read = replay(&mut buf, &mut rt.stdin(), Counts::default());
+    print_counts(&rt, replay_files(&rt, &mut buf, read))
 }

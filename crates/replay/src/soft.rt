@@ -1,11 +1,11 @@
 // The cases of the solver's soft constraint coefficients.
-use crate::compare::answers_softness;
-use crate::words::float;
+use crate::agreement::Agreement;
+use crate::case::{Case, answers};
 use solver::make_soft;
 
-pub fn agrees(f: u32, p: &[u8]) -> bool {
-    match f {
-        0x70 => answers_softness(p, 3, make_soft(float(p, 0), float(p, 1), float(p, 2))),
-        _ => false,
-    }
+pub fn agrees(f: u32, case: Case<'_>) -> Option<Agreement> {
+    Some(match f {
+        0x70 => answers(case, |(hertz, zeta, h)| make_soft(hertz, zeta, h)),
+        _ => return None,
+    })
 }

@@ -1,11 +1,11 @@
 // The cases of the functions of world positions, which are Vec3 here.
-use crate::compare::answers_vec3;
-use crate::words::vec3;
+use crate::agreement::Agreement;
+use crate::case::{Case, answers};
 use math_functions::transform::sub_pos;
 
-pub fn agrees(f: u32, p: &[u8]) -> bool {
-    match f {
-        0x60 => answers_vec3(p, 6, sub_pos(vec3(p, 0), vec3(p, 3))),
-        _ => false,
-    }
+pub fn agrees(f: u32, case: Case<'_>) -> Option<Agreement> {
+    Some(match f {
+        0x60 => answers(case, |(a, b)| sub_pos(a, b)),
+        _ => return None,
+    })
 }

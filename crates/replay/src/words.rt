@@ -1,26 +1,11 @@
-// Reading values out of the words of a case. A word has four bytes, the lowest first. Every index
+// The words of a case, read one after the other. A word has four bytes, the lowest first. Every index
 // is allowed: a word that a case does not have reads as 0, so no caller has anything to prove, and
-// a case of the wrong length is told by its count of words (compare.rt).
-ghost use Rattle.std.specs.Prelude.{◌≡◌, ◌+◌, ◌-◌, ◌*◌, ◌%◌, ◌^◌, not, length, ◌==◌, from_bits};
+// a case of the wrong length is told by where its reading ends (case.rt).
+ghost use Rattle.std.specs.Prelude.{◌≡◌, ◌+◌, ◌%◌, ◌^◌, from_bits};
 ghost use Rattle.std.specs.Float.{binary32};
 ghost use Rattle.replay.specs.Words as D;
 
-use math_functions::matrix::Mat2;
-use math_functions::types::{Matrix3, Quat, Transform, Vec2, Vec3};
-use solver::Softness;
-
-// A byte as a number: a callee that takes the byte asks no proof that it fits.
-fn wide(x: u8) -> u32
-    ensures { result ≡ x }
-{
-    x as u32
-}
-
-fn from_bytes(a: u8, b: u8, c: u8, d: u8) -> u32
-    ensures { result ≡ D.from_bytes a b c d }
-{
-    wide(a) + wide(b) * 256 + wide(c) * 65536 + wide(d) * 16777216
-}
+use crate::agreement::Agreement;
 
 // The word at index i.
 #[tactic(auto, unfolding(crate::specs::Words::word_at))]
@@ -29,28 +14,9 @@ pub fn word(p: &[u8], i: usize) -> u32
 {
     if i < p.len() / 4 {
         let at = i * 4;
-        return from_bytes(p[at], p[at + 1], p[at + 2], p[at + 3]);
+        return u32::from_le_bytes([p[at], p[at + 1], p[at + 2], p[at + 3]]);
     }
     0
-}
-
-// The words from index i on.
-pub fn words_from(p: &[u8], i: usize) -> &[u8]
-    ensures { length result.now ≡ length p.now - i * 4 }
-{
-    if i <= p.len() / 4 {
-        let at = i * 4;
-        return &p[at..];
-    }
-    let end = p.len();
-    &p[end..]
-}
-
-// The index k words past i. It wraps where no case reaches, so that nothing is asked of i.
-pub fn plus(i: usize, k: usize) -> usize
-    ensures { result ≡ (i + k) % 2 ^ 64 }
-{
-    std::num::wrapping_add_usize(i, k)
 }
 
 // The float of a pattern. A NaN's pattern, without its sign, is above infinity's. Rattle makes no
@@ -64,80 +30,75 @@ pub fn float_of(bits: u32) -> f32
     f32::from_bits(bits)
 }
 
-// The integer of a pattern, two's complement: below 0 the bits are those of its complement, which is
-// at least 0, flipped.
-fn int_of(bits: u32) -> i32 {
-    if bits < 2147483648 {
-        return bits as i32;
+// The words of a case, and the index of the next. It wraps where no case reaches, so that nothing is
+// asked of it.
+#[derive(Clone, Copy)]
+pub struct Words<'a> {
+    bytes: &'a [u8],
+    next: usize,
+}
+
+impl<'a> Words<'a> {
+    pub fn of(bytes: &'a [u8]) -> Words<'a>
+        ensures value { result.bytes.now ≡ bytes.now }
+        ensures next { result.next ≡ 0 }
+    {
+        Words { bytes, next: 0 }
     }
-    !((4294967295 - bits) as i32)
-}
 
-pub fn int(p: &[u8], i: usize) -> i32 {
-    int_of(word(p, i))
-}
-
-// A switch that is on. That its word is 0 or 1 is told by comparing (compare.rt).
-pub fn switch(p: &[u8], i: usize) -> bool
-    ensures { result ≡ not (D.word_at p.now i == 0) }
-{
-    word(p, i) != 0
-}
-
-pub fn float(p: &[u8], i: usize) -> f32
-    ensures { result ≡ from_bits binary32 (D.word_at p.now i) }
-{
-    float_of(word(p, i))
-}
-
-pub fn vec2(p: &[u8], i: usize) -> Vec2 {
-    Vec2 {
-        x: float(p, i),
-        y: float(p, plus(i, 1)),
+    pub fn skip(&mut self, count: usize)
+        ensures value { self.new.bytes.now ≡ self.old.bytes.now }
+        ensures next { self.new.next ≡ (self.old.next + count) % 2 ^ 64 }
+    {
+        self.next = self.next.wrapping_add(count);
     }
-}
 
-pub fn vec3(p: &[u8], i: usize) -> Vec3 {
-    Vec3 {
-        x: float(p, i),
-        y: float(p, plus(i, 1)),
-        z: float(p, plus(i, 2)),
+    pub fn word(&mut self) -> u32
+        ensures value { result ≡ D.word_at self.old.bytes.now self.old.next }
+        ensures rest { self.new.bytes.now ≡ self.old.bytes.now }
+        ensures next { self.new.next ≡ (self.old.next + 1) % 2 ^ 64 }
+    {
+        let x = word(self.bytes, self.next);
+        self.skip(1);
+        x
     }
-}
 
-pub fn quat(p: &[u8], i: usize) -> Quat {
-    Quat {
-        v: vec3(p, i),
-        s: float(p, plus(i, 3)),
+    pub fn float(&mut self) -> f32
+        ensures { result ≡ from_bits binary32 (D.word_at self.old.bytes.now self.old.next) }
+    {
+        float_of(self.word())
     }
-}
 
-pub fn mat2(p: &[u8], i: usize) -> Mat2 {
-    Mat2 {
-        cx: vec2(p, i),
-        cy: vec2(p, plus(i, 2)),
+    // The next `count` bytes, or all that there are, which begin a word.
+    pub fn bytes(&mut self, count: usize) -> &'a [u8] {
+        let start = self.next.saturating_mul(4).min(self.bytes.len());
+        let rest = &self.bytes[start..];
+        self.skip(count.div_ceil(4));
+        &rest[..count.min(rest.len())]
     }
-}
 
-pub fn matrix3(p: &[u8], i: usize) -> Matrix3 {
-    Matrix3 {
-        cx: vec3(p, i),
-        cy: vec3(p, plus(i, 3)),
-        cz: vec3(p, plus(i, 6)),
+    // Whether the words are read to the last, and no further. The bytes are whole words.
+    pub fn is_at_end(self) -> bool {
+        self.bytes.len() / 4 == self.next
+    }
+
+    pub fn read<T: Input>(&mut self) -> T {
+        T::read(self)
+    }
+
+    pub fn compare<T: Answer>(&mut self, x: T) -> Agreement {
+        x.compare(self)
     }
 }
 
-pub fn transform(p: &[u8], i: usize) -> Transform {
-    Transform {
-        p: vec3(p, i),
-        q: quat(p, plus(i, 3)),
-    }
+// A value that stands in an answer as a number of words.
+pub trait Answer: Copy {
+    // Whether the next words are those of the value, bit for bit, where every NaN counts as the same.
+    fn compare(self, words: &mut Words<'_>) -> Agreement;
 }
 
-pub fn softness(p: &[u8], i: usize) -> Softness {
-    Softness {
-        bias_rate: float(p, i),
-        mass_scale: float(p, plus(i, 1)),
-        impulse_scale: float(p, plus(i, 2)),
-    }
+// One that stands in the inputs too.
+pub trait Input: Answer {
+    // The value of the next words.
+    fn read(words: &mut Words<'_>) -> Self;
 }

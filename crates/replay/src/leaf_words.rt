@@ -1,0 +1,233 @@
+// The words of the numbers and of what the leaves take and answer.
+use crate::agreement::Agreement;
+use crate::words::{Answer, Input, Words, float_of};
+use math_functions::mark::Mark;
+use math_functions::matrix::{MarkedMatrix3, MarkedVec2, MarkedVec3, Mat2};
+use math_functions::types::{Matrix3, Quat, Transform, Vec2, Vec3};
+use solver::Softness;
+
+// Whether bits is the pattern of x. Rattle gives no pattern of a NaN, so one is told by itself.
+fn same(x: f32, bits: u32) -> bool {
+    if x != x {
+        let y = float_of(bits);
+        return y != y;
+    }
+    f32::to_bits(x) == bits
+}
+
+impl Answer for u32 {
+    fn compare(self, words: &mut Words<'_>) -> Agreement {
+        Agreement::from(words.word() == self)
+    }
+}
+
+impl Input for u32 {
+    fn read(words: &mut Words<'_>) -> u32 {
+        words.word()
+    }
+}
+
+// Two's complement.
+impl Answer for i32 {
+    fn compare(self, words: &mut Words<'_>) -> Agreement {
+        words.compare(self.cast_unsigned())
+    }
+}
+
+impl Input for i32 {
+    fn read(words: &mut Words<'_>) -> i32 {
+        words.word().cast_signed()
+    }
+}
+
+// A switch is on unless its word is 0. That its word is 0 or 1 is told by comparing.
+impl Answer for bool {
+    fn compare(self, words: &mut Words<'_>) -> Agreement {
+        words.compare(u32::from(self))
+    }
+}
+
+impl Input for bool {
+    fn read(words: &mut Words<'_>) -> bool {
+        words.word() != 0
+    }
+}
+
+impl Answer for f32 {
+    fn compare(self, words: &mut Words<'_>) -> Agreement {
+        Agreement::from(same(self, words.word()))
+    }
+}
+
+impl Input for f32 {
+    fn read(words: &mut Words<'_>) -> f32 {
+        words.float()
+    }
+}
+
+impl Answer for Vec2 {
+    fn compare(self, words: &mut Words<'_>) -> Agreement {
+        words.compare(self.x) & words.compare(self.y)
+    }
+}
+
+impl Input for Vec2 {
+    fn read(words: &mut Words<'_>) -> Vec2 {
+        Vec2 {
+            x: words.read(),
+            y: words.read(),
+        }
+    }
+}
+
+impl Answer for Vec3 {
+    fn compare(self, words: &mut Words<'_>) -> Agreement {
+        words.compare(self.x) & words.compare(self.y) & words.compare(self.z)
+    }
+}
+
+impl Input for Vec3 {
+    fn read(words: &mut Words<'_>) -> Vec3 {
+        Vec3 {
+            x: words.read(),
+            y: words.read(),
+            z: words.read(),
+        }
+    }
+}
+
+impl Answer for Quat {
+    fn compare(self, words: &mut Words<'_>) -> Agreement {
+        words.compare(self.v) & words.compare(self.s)
+    }
+}
+
+impl Input for Quat {
+    fn read(words: &mut Words<'_>) -> Quat {
+        Quat {
+            v: words.read(),
+            s: words.read(),
+        }
+    }
+}
+
+impl Answer for Mat2 {
+    fn compare(self, words: &mut Words<'_>) -> Agreement {
+        words.compare(self.cx) & words.compare(self.cy)
+    }
+}
+
+impl Input for Mat2 {
+    fn read(words: &mut Words<'_>) -> Mat2 {
+        Mat2 {
+            cx: words.read(),
+            cy: words.read(),
+        }
+    }
+}
+
+impl Answer for Matrix3 {
+    fn compare(self, words: &mut Words<'_>) -> Agreement {
+        words.compare(self.cx) & words.compare(self.cy) & words.compare(self.cz)
+    }
+}
+
+impl Input for Matrix3 {
+    fn read(words: &mut Words<'_>) -> Matrix3 {
+        Matrix3 {
+            cx: words.read(),
+            cy: words.read(),
+            cz: words.read(),
+        }
+    }
+}
+
+impl Answer for Transform {
+    fn compare(self, words: &mut Words<'_>) -> Agreement {
+        words.compare(self.p) & words.compare(self.q)
+    }
+}
+
+impl Input for Transform {
+    fn read(words: &mut Words<'_>) -> Transform {
+        Transform {
+            p: words.read(),
+            q: words.read(),
+        }
+    }
+}
+
+impl Answer for Softness {
+    fn compare(self, words: &mut Words<'_>) -> Agreement {
+        words.compare(self.bias_rate)
+            & words.compare(self.mass_scale)
+            & words.compare(self.impulse_scale)
+    }
+}
+
+impl Input for Softness {
+    fn read(words: &mut Words<'_>) -> Softness {
+        Softness {
+            bias_rate: words.read(),
+            mass_scale: words.read(),
+            impulse_scale: words.read(),
+        }
+    }
+}
+
+// Inputs that stand one after the other, and parts of an answer.
+impl Answer for () {
+    fn compare(self, _words: &mut Words<'_>) -> Agreement {
+        Agreement::from(true)
+    }
+}
+
+impl<X: Answer, Y: Answer> Answer for (X, Y) {
+    fn compare(self, words: &mut Words<'_>) -> Agreement {
+        words.compare(self.0) & words.compare(self.1)
+    }
+}
+
+impl<X: Input, Y: Input> Input for (X, Y) {
+    fn read(words: &mut Words<'_>) -> (X, Y) {
+        (words.read(), words.read())
+    }
+}
+
+impl<X: Answer, Y: Answer, Z: Answer> Answer for (X, Y, Z) {
+    fn compare(self, words: &mut Words<'_>) -> Agreement {
+        words.compare(self.0) & words.compare(self.1) & words.compare(self.2)
+    }
+}
+
+impl<X: Input, Y: Input, Z: Input> Input for (X, Y, Z) {
+    fn read(words: &mut Words<'_>) -> (X, Y, Z) {
+        (words.read(), words.read(), words.read())
+    }
+}
+
+// A mark: 0 for none, 1 for solved, 2 for fell back.
+impl Answer for Mark {
+    fn compare(self, words: &mut Words<'_>) -> Agreement {
+        Agreement::of_mark(words.word() == self as u32)
+    }
+}
+
+// The answer of a leaf that may fall back to zeros has its mark last.
+impl Answer for MarkedVec2 {
+    fn compare(self, words: &mut Words<'_>) -> Agreement {
+        words.compare((self.value, self.mark))
+    }
+}
+
+impl Answer for MarkedVec3 {
+    fn compare(self, words: &mut Words<'_>) -> Agreement {
+        words.compare((self.value, self.mark))
+    }
+}
+
+impl Answer for MarkedMatrix3 {
+    fn compare(self, words: &mut Words<'_>) -> Agreement {
+        words.compare((self.value, self.mark))
+    }
+}
