@@ -6,13 +6,12 @@ use math_functions::matrix::{MarkedMatrix3, MarkedVec2, MarkedVec3, Mat2};
 use math_functions::types::{Matrix3, Quat, Transform, Vec2, Vec3};
 use solver::Softness;
 
-// Whether bits is the pattern of x. Rattle gives no pattern of a NaN, so one is told by itself.
+// Whether bits is the pattern of x. Rattle gives no pattern of a NaN, so one is told first: any is the same.
 fn same(x: f32, bits: u32) -> bool {
-    if x != x {
-        let y = float_of(bits);
-        return y != y;
+    if x.is_nan() {
+        return float_of(bits).is_nan();
     }
-    f32::to_bits(x) == bits
+    x.to_bits() == bits
 }
 
 impl Answer for u32 {
@@ -40,7 +39,6 @@ impl Input for i32 {
     }
 }
 
-// A switch is on unless its word is 0. That its word is 0 or 1 is told by comparing.
 impl Answer for bool {
     fn compare(self, words: &mut Words<'_>) -> Agreement {
         words.compare(u32::from(self))
@@ -49,7 +47,7 @@ impl Answer for bool {
 
 impl Input for bool {
     fn read(words: &mut Words<'_>) -> bool {
-        words.word() != 0
+        words.switch()
     }
 }
 

@@ -27,11 +27,19 @@ struct Row {
 
 // The state of an index.
 fn state_of(states: &[BodyState; 3], index: i32) -> BodyState {
-    match index {
-        0 => states[0],
-        1 => states[1],
-        2 => states[2],
-        _ => IDENTITY_BODY_STATE,
+    let Ok(k) = usize::try_from(index) else {
+        return IDENTITY_BODY_STATE;
+    };
+    states.get(k).copied().unwrap_or(IDENTITY_BODY_STATE)
+}
+
+// Stores the state of an index, if it is that of a state.
+fn store(states: &mut [BodyState; 3], index: i32, state: BodyState) {
+    let Ok(k) = usize::try_from(index) else {
+        return;
+    };
+    if let Some(place) = states.get_mut(k) {
+        *place = state;
     }
 }
 
@@ -57,27 +65,16 @@ impl Row {
         }
     }
 
-    // State k as a stage left it: as it was in the inputs, unless it is that of one of the bodies.
-    fn left(&self, k: i32, pair: &StatePair) -> BodyState {
-        if self.at.b == k {
-            return pair.state_b;
-        }
-        if self.at.a == k {
-            return pair.state_a;
-        }
-        state_of(&self.states, k)
-    }
-
-    // The states with a stage's velocities stored.
-    fn stored(&self, v: Velocities) -> [BodyState; 3] {
+    // The states as a stage left them: as they were in the inputs, but those of the bodies, B's last, have
+    // its velocities stored.
+    fn left(&self, v: Velocities) -> [BodyState; 3] {
         let is_one_body = self.at.a == self.at.b && self.at.a != NULL_INDEX;
         let before = self.pair();
         let pair = store_pair(before.state_a, before.state_b, is_one_body, v);
-        [
-            self.left(0, &pair),
-            self.left(1, &pair),
-            self.left(2, &pair),
-        ]
+        let mut states = self.states;
+        store(&mut states, self.at.a, pair.state_a);
+        store(&mut states, self.at.b, pair.state_b);
+        states
     }
 }
 
@@ -90,7 +87,7 @@ fn left<M: Answer>(
 ) -> Agreement {
     case.expect(r.is_done());
     case.answer(OfKind(kind, r.joint));
-    answer_states(&mut case, row.count, &row.stored(r.left));
+    answer_states(&mut case, row.count, &row.left(r.left));
     case.answer(r.marks);
     case.end()
 }

@@ -24,6 +24,8 @@ fn left<L: Answer, M: Answer>(mut case: Case<'_>, kind: Kind, r: Outcome<L, M>) 
     case.end()
 }
 
+// (The functions of these names in stages.rt read another joint, other states and another answer: all but
+// the call.)
 fn prepares<F>(mut case: Case<'_>, prepare: F) -> Agreement
 where
     F: Fn(JointSim, StepContext, BodyRecord, BodyRecord) -> Prepared,

@@ -1,7 +1,7 @@
 // The words of a case, read one after the other. A word has four bytes, the lowest first. Every index
 // is allowed: a word that a case does not have reads as 0, so no caller has anything to prove, and
 // a case of the wrong length is told by where its reading ends (case.rt).
-ghost use Rattle.std.specs.Prelude.{◌≡◌, ◌+◌, ◌%◌, ◌^◌, from_bits};
+ghost use Rattle.std.specs.Prelude.{◌≡◌, ◌+◌, ◌/◌, ◌%◌, ◌^◌, not, length, ◌==◌, from_bits};
 ghost use Rattle.std.specs.Float.{binary32};
 ghost use Rattle.replay.specs.Words as D;
 
@@ -69,6 +69,13 @@ impl<'a> Words<'a> {
         float_of(self.word())
     }
 
+    // A switch is on unless its word is 0. That its word is 0 or 1 is told by comparing.
+    pub fn switch(&mut self) -> bool
+        ensures { result ≡ not (D.word_at self.old.bytes.now self.old.next == 0) }
+    {
+        self.word() != 0
+    }
+
     // The next `count` bytes, or all that there are, which begin a word.
     pub fn bytes(&mut self, count: usize) -> &'a [u8] {
         let start = self.next.saturating_mul(4).min(self.bytes.len());
@@ -78,7 +85,9 @@ impl<'a> Words<'a> {
     }
 
     // Whether the words are read to the last, and no further. The bytes are whole words.
-    pub fn is_at_end(self) -> bool {
+    pub fn is_at_end(self) -> bool
+        ensures { result ≡ (length self.entry.bytes.now / 4 == self.entry.next) }
+    {
         self.bytes.len() / 4 == self.next
     }
 
