@@ -156,10 +156,7 @@ fn has_arg(rt: &impl Env, i: usize) -> bool {
 
 fn replay_files<R: Files + Env>(rt: &R, buf: &mut [u8], before: Counts) -> Counts {
     let mut counts = before;
-    for i in 1..usize::MAX {
-        if !has_arg(rt, i) {
-            break;
-        }
+    for i in (1..usize::MAX).take_while(|i| has_arg(rt, *i)) {
         counts = replay_file(rt, buf, i, counts);
     }
     counts
