@@ -16,7 +16,8 @@ pub const ROOM: usize = 65536;
 // What the cases of a block came to.
 #[derive(Clone, Copy)]
 pub struct Block {
-    // How many bytes they take: more than the block has, where the last is too long for the buffer.
+    // How many bytes they take, those still to come too: more than the block has, where the last is too long
+    // for the buffer.
     pub used: usize,
     pub counts: Counts,
 }
@@ -76,8 +77,8 @@ fn cut_at(at: usize, size: usize, counts: Counts) -> Block {
     Block { used: at, counts }
 }
 
-// Runs the cases that the block has whole.
-// (The index goes on by a case's own length, so no iterator of the library walks it.)
+// Runs the cases that the block has whole. (The index goes on by a case's own length, so no iterator of the
+// library walks it.)
 pub fn run_cases(block: &[u8]) -> Block {
     let mut at = 0usize;
     let mut counts = Counts::default();

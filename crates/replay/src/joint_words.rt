@@ -19,7 +19,8 @@ impl Answer for Kind {
     }
 }
 
-// Any other number reads as 3, which comparing tells from it.
+// Any other number reads as 3, which comparing tells from it: the words after it are read and compared all the
+// same, so it is no Option.
 impl Input for Kind {
     fn read(words: &mut Words<'_>) -> Kind {
         match words.word() {

@@ -12,7 +12,7 @@ impl Answer for JointType {
     }
 }
 
-// A number that no type has reads as the last, which comparing tells from it.
+// A number that no type has reads as the last, which comparing tells from it. (No derive reads an enum's number.)
 impl Input for JointType {
     fn read(words: &mut Words<'_>) -> JointType {
         match words.word() {

@@ -101,6 +101,8 @@ impl<'a> Words<'a> {
 }
 
 // A value that stands in an answer as a number of words.
+// (A record lists its fields twice, here and in Input, by hand: the two check each other, as case.rt compares what
+// it read, and the gate takes no impl that a derive of the repository's own writes.)
 pub trait Answer: Copy {
     // Whether the next words are those of the value, bit for bit, where every NaN counts as the same.
     fn compare(self, words: &mut Words<'_>) -> Agreement;
