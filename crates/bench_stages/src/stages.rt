@@ -38,7 +38,7 @@ impl Stages for Revolute {
 
     fn prepare(joint: &mut JointSim, context: StepContext, a: BodyRecord, b: BodyRecord) {
         let p = prepare_revolute_joint(*joint, context, a, b);
-        if p.number == 0 {
+        if let None = p.refused {
             *joint = p.joint;
         }
     }
@@ -65,7 +65,7 @@ impl Stages for Spherical {
 
     fn prepare(joint: &mut JointSim, context: StepContext, a: BodyRecord, b: BodyRecord) {
         let p = prepare_spherical_joint(*joint, context, a, b);
-        if p.number == 0 {
+        if let None = p.refused {
             *joint = p.joint;
         }
     }
@@ -92,7 +92,7 @@ impl Stages for Weld {
 
     fn prepare(joint: &mut JointSim, context: StepContext, a: BodyRecord, b: BodyRecord) {
         let p = prepare_weld_joint(*joint, context, a, b);
-        if p.number == 0 {
+        if let None = p.refused {
             *joint = p.joint;
         }
     }

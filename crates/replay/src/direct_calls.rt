@@ -26,7 +26,7 @@ fn count_of(case: &mut Case<'_>) -> u32 {
 // Whether the call leaves what the case says.
 fn left(mut case: Case<'_>, kind: Kind, count: u32, lent: Lent) -> Agreement {
     let r = Outcome::from(lent);
-    case.answer((r.number, r.place));
+    case.answer(r.number_and_place());
     case.answer(OfKind(kind, r.joint));
     answer_states(&mut case, count, &r.left);
     case.answer(r.marks);

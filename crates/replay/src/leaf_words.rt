@@ -1,8 +1,8 @@
 // The words of the numbers and of what the leaves take and answer.
 use crate::agreement::Agreement;
 use crate::words::{Answer, Input, Words, float_of};
-use math_functions::mark::Mark;
-use math_functions::matrix::{MarkedMatrix3, MarkedVec2, MarkedVec3, Mat2};
+use math_functions::mark::{Mark, Marked};
+use math_functions::matrix::Mat2;
 use math_functions::types::{Matrix3, Quat, Transform, Vec2, Vec3};
 use solver::Softness;
 
@@ -205,27 +205,20 @@ impl<X: Input, Y: Input, Z: Input> Input for (X, Y, Z) {
 }
 
 // A mark: 0 for none, 1 for solved, 2 for fell back.
-impl Answer for Mark {
+impl Answer for Option<Mark> {
     fn compare(self, words: &mut Words<'_>) -> Agreement {
-        Agreement::of_mark(words.word() == self as u32)
+        let mark = match self {
+            None => 0,
+            Some(Mark::Solved) => 1,
+            Some(Mark::FellBack) => 2,
+        };
+        Agreement::of_mark(words.word() == mark)
     }
 }
 
 // The answer of a leaf that may fall back to zeros has its mark last.
-impl Answer for MarkedVec2 {
+impl<T: Answer> Answer for Marked<T> {
     fn compare(self, words: &mut Words<'_>) -> Agreement {
-        words.compare((self.value, self.mark))
-    }
-}
-
-impl Answer for MarkedVec3 {
-    fn compare(self, words: &mut Words<'_>) -> Agreement {
-        words.compare((self.value, self.mark))
-    }
-}
-
-impl Answer for MarkedMatrix3 {
-    fn compare(self, words: &mut Words<'_>) -> Agreement {
-        words.compare((self.value, self.mark))
+        words.compare((self.value, Some(self.mark)))
     }
 }

@@ -7,7 +7,7 @@ use crate::agreement::Agreement;
 use crate::case::Case;
 use crate::scene_words::{answer_places, places_of};
 use call_list::run_list;
-use scene::{Run, Scene, empty_scene};
+use scene::{Scene, empty_scene};
 use solver::StepContext;
 
 // What stands before the context.
@@ -44,9 +44,13 @@ fn scene_of(case: &mut Case<'_>, head: Head) -> Scene {
 }
 
 // Whether the list runs as the answer says.
-fn left(mut case: Case<'_>, head: Head, run: &Run) -> Agreement {
-    let scene = &run.scene;
-    case.answer((run.number, run.place, run.still));
+fn left(
+    mut case: Case<'_>,
+    head: Head,
+    answer: (u32, u32, bool),
+    scene: &Scene,
+) -> Agreement {
+    case.answer(answer);
     case.answer((scene.joint_count, scene.body_count, scene.context));
     answer_places(&mut case, head.joints as usize, &scene.joints);
     answer_places(&mut case, head.states as usize, &scene.bodies);
@@ -60,7 +64,10 @@ fn runs(mut case: Case<'_>) -> Agreement {
     }
     let scene = scene_of(&mut case, head);
     let list = case.bytes(head.bytes as usize);
-    left(case, head, &run_list(scene, list))
+    match run_list(scene, list) {
+        Ok(run) => left(case, head, (0, 0, run.still), &run.scene),
+        Err(r) => left(case, head, (r.cause.number(), r.place, false), &scene),
+    }
 }
 
 pub fn agrees(f: u32, case: Case<'_>) -> Option<Agreement> {

@@ -1,4 +1,4 @@
-// What the stages and the direct calls answer, alike: number and place, the joint, and what else they leave.
+// What the stages and the direct calls answer, alike: the cause of a refusal, the joint, and what else they leave.
 use crate::agreement::Agreement;
 use crate::words::{Answer, Words};
 use constraint::answer::{Prepared, Report, Solved, WarmStarted};
@@ -7,29 +7,31 @@ use lent_calls::Lent;
 use math_functions::mark::Mark;
 use records::body::BodyState;
 use records::joint::JointSim;
+use records::refusal::Cause;
 
 // `left` is what the call leaves beside the joint, and `marks` those of what may fall back to zeros.
 #[derive(Clone, Copy)]
 pub struct Outcome<L, M> {
-    pub number: u32,
-    pub place: u32,
+    pub refused: Option<Cause>,
     pub joint: JointSim,
     pub left: L,
     pub marks: M,
 }
 
 impl<L, M> Outcome<L, M> {
-    // Whether the call was not refused.
-    pub fn is_done(&self) -> bool {
-        self.number == 0 && self.place == 0
+    // The number, and the place of a call by itself.
+    pub fn number_and_place(&self) -> (u32, u32) {
+        match self.refused {
+            Some(cause) => (cause.number(), 0),
+            None => (0, 0),
+        }
     }
 }
 
-impl From<Prepared> for Outcome<(), Mark> {
-    fn from(r: Prepared) -> Outcome<(), Mark> {
+impl From<Prepared> for Outcome<(), Option<Mark>> {
+    fn from(r: Prepared) -> Outcome<(), Option<Mark>> {
         Outcome {
-            number: r.number,
-            place: r.place,
+            refused: r.refused.map(Cause::from),
             joint: r.joint,
             left: (),
             marks: r.mass_mark,
@@ -40,8 +42,7 @@ impl From<Prepared> for Outcome<(), Mark> {
 impl From<WarmStarted> for Outcome<Velocities, ()> {
     fn from(r: WarmStarted) -> Outcome<Velocities, ()> {
         Outcome {
-            number: r.number,
-            place: r.place,
+            refused: r.refused.map(Cause::from),
             joint: r.joint,
             left: r.velocities,
             marks: (),
@@ -52,8 +53,7 @@ impl From<WarmStarted> for Outcome<Velocities, ()> {
 impl From<Solved> for Outcome<Velocities, Report> {
     fn from(r: Solved) -> Outcome<Velocities, Report> {
         Outcome {
-            number: r.number,
-            place: r.place,
+            refused: r.refused.map(Cause::from),
             joint: r.joint,
             left: r.velocities,
             marks: r.report,
@@ -65,8 +65,7 @@ impl From<Lent> for Outcome<[BodyState; 40], Report> {
     fn from(r: Lent) -> Outcome<[BodyState; 40], Report> {
         let states = r.states;
         Outcome {
-            number: r.answer.number,
-            place: r.answer.place,
+            refused: r.answer.refused,
             joint: r.joint,
             left: states,
             marks: r.answer.report,

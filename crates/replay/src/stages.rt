@@ -85,7 +85,7 @@ fn left<M: Answer>(
     row: &Row,
     r: Outcome<Velocities, M>,
 ) -> Agreement {
-    case.expect(r.is_done());
+    case.expect(r.refused.is_none());
     case.answer(OfKind(kind, r.joint));
     answer_states(&mut case, row.count, &row.left(r.left));
     case.answer(r.marks);
@@ -102,7 +102,7 @@ where
     let body_a: BodyRecord = case.input();
     let body_b: BodyRecord = case.input();
     let r = Outcome::from(prepare(joint, step, body_a, body_b));
-    case.expect(r.is_done());
+    case.expect(r.refused.is_none());
     case.answer(OfKind(kind, r.joint));
     case.answer(r.marks);
     case.end()

@@ -3,11 +3,15 @@
 use crate::agreement::Agreement;
 use crate::case::{Case, answers};
 use crate::words::{Answer, Words};
-use stop_code::{StopCode, stop_code};
+use records::refusal::{Cause, WrongKind};
+use stop_code::stop_code;
 
-impl Answer for StopCode {
+impl Answer for Result<u32, WrongKind> {
     fn compare(self, words: &mut Words<'_>) -> Agreement {
-        words.compare((self.number, self.place, self.code))
+        match self {
+            Ok(code) => words.compare((0u32, 0u32, code)),
+            Err(refused) => words.compare((Cause::from(refused).number(), 0u32, 0u32)),
+        }
     }
 }
 
