@@ -21,8 +21,7 @@ use Rattle.constraint.specs.Answer.{no_report}
 use Rattle.joint.specs.Stage.{Staged, staged, of_warm_start, of_solve, warm_start_as, warm_start_joint, solve_as, solve_joint, stage_joint}
 use Rattle.joint.specs.Stage.{warm_start_of, solve_of}
 use Rattle.joint.proofs.Stages.{warm_start_of_lem, solve_of_lem, warm_start_joint_lem}
-use Rattle.call_list.specs.Positions.{stage_code}
-use Rattle.call_list.proofs.StageCodes.{warm_code, solve_code, no_code}
+use Rattle.call_list.proofs.StageCodes.{stage_code, warm_code, solve_code, no_code}
 
 -- the stage of the joint that a call reads; past the last slot nothing is worked
 abbrev pub stage_in : ℕ → JointSim → StepContext → BodyState → BodyState → ℕ → Staged

@@ -15,7 +15,7 @@ use Rattle.records.specs.Body.{is_dynamic, store_velocities, identity_body_state
 use Rattle.scene.specs.Scene.{state_at, store}
 use Rattle.scene.proofs.Stores as Stores
 use Rattle.scene.proofs.Stores.{store_none}
-use Rattle.list_check.proofs.Elements.{get_d_any}
+use Rattle.std.proofs.lemmas.List.{get_or_default}
 use Rattle.call_list.specs.Positions.{body_position, joint_position, with_identity}
 
 -- ---- positions
@@ -30,7 +30,7 @@ last us long d = get_or_at us identity_body_state [] d 32 long
 
 inside : (us : List BodyState) (n : ℕ) (d : BodyState) → length us ≡ 32 → n < 32 → get_or (with_identity us) n d ≡ get_or us n identity_body_state
 unfolding with_identity
-inside us n d long h = get_or-append us (identity_body_state ∷ []) d n (rw long h) ∙ get_d_any us n d identity_body_state (rw long h)
+inside us n d long h = get_or-append us (identity_body_state ∷ []) d n (rw long h) ∙ get_or_default us n d identity_body_state (rw long h)
 
 -- what stands at an index's position is the state at the index
 pub seen_is : (us : List BodyState) → length us ≡ 32 → (z : ℤ) (d : BodyState) → get_or (with_identity us) (body_position z) d ≡ state_at us z

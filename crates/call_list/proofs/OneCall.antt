@@ -21,7 +21,7 @@ use Rattle.scene.specs.declared.Scene.{Scene}
 use Rattle.scene.specs.Scene.{with_bodies_and_joints, state_at, store}
 use Rattle.scene.specs.Calls.{call}
 use Rattle.scene.specs.Plain.{stage_at, store_both, placed, step}
-use Rattle.list_check.proofs.Elements.{get_d_any}
+use Rattle.std.proofs.lemmas.List.{get_or_default}
 use Rattle.call_list.specs.Positions.{body_position, joint_position, with_identity}
 use Rattle.call_list.proofs.Elements.{joint_position_in, seen_is, kept_is, store_long}
 use Rattle.call_list.proofs.Arms.{stage_in, ArmWorked}
@@ -97,7 +97,7 @@ module _ (s : Scene) (js : List JointSim) (us ws : List BodyState) (slot stage a
       let lb' = store_long us y v.v_a v.w_a lb in
       let sa : a ≡ state_at us y = rw (ew, hpa) (seen_is us lb y e) in
       let sb : b ≡ state_at us z = rw (ew, hpb) (seen_is us lb z e) in
-      let same : joint ≡ get_or js slot unused_joint = rw q (get_d_any js slot d unused_joint (rw lj h)) in
+      let same : joint ≡ get_or js slot unused_joint = rw q (get_or_default js slot d unused_joint (rw lj h)) in
       record {
         bodies = store one z v.v_b v.w_b;
         holds = rw (g, hpb) (kept_is one lb' z nb e v.v_b v.w_b (rw (g, hpb) at kb));

@@ -1,5 +1,5 @@
 -- What the code of a call's stage tells of its slot, its joint and its stage. Assumes nothing.
-use mathlib.Core.Path.{◌≡◌, refl}
+use mathlib.Core.Path.{◌≡◌, refl, ap, ◌∙◌}
 use mathlib.Core.Logic.{◌⊎◌, inl, inr, ◌≢◌}
 use mathlib.Core.Bool.{Bool, true, false, cond}
 use Prim.Native.Nat.{ℕ, ◌+◌, ◌≤◌, ◌<◌}
@@ -9,7 +9,49 @@ use borrow.Author.Tests.{eqb-true, eqb-false}
 use Rattle.records.specs.declared.joint.JointUnion.{JointUnion}
 use Rattle.records.specs.declared.joint.JointUnion.TheVariants.{Revolute, Spherical, Weld, Other}
 use Rattle.records.specs.Joint.{case_of}
-use Rattle.call_list.specs.Positions.{code_in, stage_code}
+use Rattle.call_list.specs.declared.positions.Work.{Work}
+use Rattle.call_list.specs.declared.positions.Work.TheVariants.{RevoluteWarmStart, SphericalWarmStart, WeldWarmStart}
+use Rattle.call_list.specs.declared.positions.Work.TheVariants.{RevoluteSolve, SphericalSolve, WeldSolve, Nothing}
+use Rattle.call_list.specs.Positions.{work_of}
+
+-- the work of a call in one number: a warm start's is its joint's case, a solve's three more, and 6 where nothing is worked
+unfoldable pub code : Work → ℕ
+code RevoluteWarmStart = 0
+code SphericalWarmStart = 1
+code WeldWarmStart = 2
+code RevoluteSolve = 3
+code SphericalSolve = 4
+code WeldSolve = 5
+code Nothing = 6
+
+pub nothing : (w : Work) → w ≡ Nothing → 6 ≤ code w
+unfolding code
+nothing w e = let six : code w ≡ 6 = ap code e in omega (arith, six)
+
+unfoldable pub code_in : ℕ → ℕ → ℕ
+code_in slot x = cond (ltb slot 32) x 6
+
+unfoldable pub stage_code : ℕ → JointUnion → ℕ → ℕ
+stage_code slot (Revolute j) stage = code_in slot (cond (eqb stage 0) 0 3)
+stage_code slot (Spherical j) stage = code_in slot (cond (eqb stage 0) 1 4)
+stage_code slot (Weld j) stage = code_in slot (cond (eqb stage 0) 2 5)
+stage_code slot Other stage = 6
+
+pub coded : (w : Work) (slot : ℕ) (u : JointUnion) (stage : ℕ) → w ≡ work_of slot u stage → code w ≡ stage_code slot u stage
+unfolding work_of stage_code code_in code
+coded w slot u stage e = ap code e ∙ by u (ltb slot 32) (eqb stage 0) refl refl
+  where
+    by : (u : JointUnion) (b warm : Bool) → ltb slot 32 ≡ b → eqb stage 0 ≡ warm → code (work_of slot u stage) ≡ stage_code slot u stage
+    by (Revolute j) true true f g = rw (f, g) refl
+    by (Revolute j) true false f g = rw (f, g) refl
+    by (Revolute j) false warm f g = rw f refl
+    by (Spherical j) true true f g = rw (f, g) refl
+    by (Spherical j) true false f g = rw (f, g) refl
+    by (Spherical j) false warm f g = rw f refl
+    by (Weld j) true true f g = rw (f, g) refl
+    by (Weld j) true false f g = rw (f, g) refl
+    by (Weld j) false warm f g = rw f refl
+    by Other b warm f g = refl
 
 -- past the last slot a code is that of no stage
 in_slot : (slot x k : ℕ) → code_in slot x ≡ k → k < 6 → (ltb slot 32 ≡ true) × (x ≡ k)

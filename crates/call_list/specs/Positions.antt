@@ -6,6 +6,9 @@ use Rattle.records.specs.declared.joint.JointUnion.TheVariants.{Revolute, Spheri
 use Rattle.records.specs.Body.{identity_body_state}
 use Rattle.joint.specs.Index.{index_a, index_b}
 use Rattle.call_list.specs.declared.positions.Positions.{Positions}
+use Rattle.call_list.specs.declared.positions.Work.{Work}
+use Rattle.call_list.specs.declared.positions.Work.TheVariants.{RevoluteWarmStart, SphericalWarmStart, WeldWarmStart}
+use Rattle.call_list.specs.declared.positions.Work.TheVariants.{RevoluteSolve, SphericalSolve, WeldSolve, Nothing}
 
 -- a position among 32 bodies, or that of the identity state after them
 abbrev pub body_position : ℤ → ℕ
@@ -15,16 +18,16 @@ body_position (negsuc n) = 32
 abbrev pub positions_of : JointUnion → Positions
 positions_of union = record { at_a = body_position (index_a union); at_b = body_position (index_b union) }
 
--- a code, and 6 past the last slot, where there is no joint
-unfoldable pub code_in : ℕ → ℕ → ℕ
-code_in slot code = cond (ltb slot 32) code 6
+-- the work past the last slot is none, where there is no joint
+abbrev pub in_slot : ℕ → Work → Work
+in_slot slot work = cond (ltb slot 32) work Nothing
 
--- the stage of a kind in one number: a warm start's, a solve's, and 6 where nothing is worked
-unfoldable pub stage_code : ℕ → JointUnion → ℕ → ℕ
-stage_code slot (Revolute j) stage = code_in slot (cond (eqb stage 0) 0 3)
-stage_code slot (Spherical j) stage = code_in slot (cond (eqb stage 0) 1 4)
-stage_code slot (Weld j) stage = code_in slot (cond (eqb stage 0) 2 5)
-stage_code slot Other stage = 6
+-- which stage of which kind a call works
+unfoldable pub work_of : ℕ → JointUnion → ℕ → Work
+work_of slot (Revolute j) stage = in_slot slot (cond (eqb stage 0) RevoluteWarmStart RevoluteSolve)
+work_of slot (Spherical j) stage = in_slot slot (cond (eqb stage 0) SphericalWarmStart SphericalSolve)
+work_of slot (Weld j) stage = in_slot slot (cond (eqb stage 0) WeldWarmStart WeldSolve)
+work_of slot Other stage = Nothing
 
 -- a slot's position among 32 joints: 0 for one past them, whose calls work no joint
 unfoldable pub joint_position : ℕ → ℕ

@@ -1,12 +1,12 @@
 // The calls of a list, worked one after the other on a scene. Nothing is tested here: a call that a run
 // would refuse is worked as its definition says.
-ghost use Rattle.std.specs.Prelude.{◌≡◌, ◌+◌, ◌*◌, ◌/◌, ◌<◌, length, get_or, take};
+ghost use Rattle.std.specs.Prelude.{◌≡◌, take};
 ghost use Rattle.scene.specs.Calls.{calls};
 ghost use Rattle.scene.specs.Plain.{run_calls};
 ghost use Rattle.scene.specs.Scene.{with_bodies_and_joints};
 
 use crate::positions::{
-    Positions, joint_position, positions_of, stage_code, with_identity, without_identity,
+    Positions, Work, joint_position, positions_of, with_identity, without_identity, work_of,
 };
 use constraint::answer::Solved;
 use constraint::velocity::velocities_of;
@@ -16,30 +16,6 @@ use revolute::{solve_revolute_joint, warm_start_revolute_joint};
 use scene::Scene;
 use spherical::{solve_spherical_joint, warm_start_spherical_joint};
 use weld::{solve_weld_joint, warm_start_weld_joint};
-
-// A last byte by itself is no call.
-fn call_count(list: &[u8]) -> usize
-    ensures { result ≡ length list.now / 2 }
-{
-    list.len() / 2
-}
-
-// Two bytes of a list.
-#[derive(Clone, Copy)]
-struct Call {
-    slot: u8,
-    stage: u8,
-}
-
-fn call_at(list: &[u8], k: usize) -> Call
-    requires { 2 * k + 1 < length list.now }
-    ensures { (result.slot ≡ get_or list.now (2 * k) 0) × (result.stage ≡ get_or list.now (2 * k + 1) 0) }
-{
-    Call {
-        slot: list[2 * k],
-        stage: list[2 * k + 1],
-    }
-}
 
 // The joint as a solve leaves it.
 fn solved_joint(solved: Solved) -> JointSim
@@ -63,43 +39,43 @@ fn scene_left(scene: Scene, joints: [JointSim; 32], bodies: [BodyState; 33]) -> 
     }
 }
 
-// The calls in order, each on what the one before it left. Bodies and joints are read and stored one
-// element at a time; index -1 leads to the last position of `bodies`, which holds the identity state.
-// The joint is read in each arm, so that only what its stage needs is loaded, and stored there by a
-// solve, so that only what the solve changes is written. Bodies are read again before they are stored:
-// A, so that it need not be kept through the stage, and B, since both indices may name one body.
+// The calls in order, each on what the one before it left; a last byte by itself is none. Bodies and joints
+// are read and stored one element at a time; index -1 leads to the last position of `bodies`, which holds
+// the identity state. The joint is read in each arm, so that only what its stage needs is loaded, and stored
+// there by a solve, so that only what the solve changes is written. Bodies are read again before they are
+// stored: A, so that it need not be kept through the stage, and B, since both indices may name one body.
 pub fn run_calls(scene: Scene, list: &[u8]) -> Scene
     ensures { result ≡ run_calls (calls list.now) scene }
 {
     let context = scene.context;
     let mut joints = scene.joints;
     let mut bodies = with_identity(scene);
-    for k in 0..call_count(list) {
-        let Call { slot, stage } = call_at(list, k);
+    let (calls, _) = list.as_chunks::<2>();
+    for &[slot, stage] in calls {
         let at = joint_position(slot);
         let Positions { at_a, at_b } = positions_of(joints[at]);
         let a = bodies[at_a];
         let b = bodies[at_b];
-        let v = match stage_code(slot, joints[at], stage) {
-            0 => warm_start_revolute_joint(joints[at], a, b).velocities,
-            1 => warm_start_spherical_joint(joints[at], a, b).velocities,
-            2 => warm_start_weld_joint(joints[at], a, b).velocities,
-            3 => {
+        let v = match work_of(slot, joints[at], stage) {
+            Work::RevoluteWarmStart => warm_start_revolute_joint(joints[at], a, b).velocities,
+            Work::SphericalWarmStart => warm_start_spherical_joint(joints[at], a, b).velocities,
+            Work::WeldWarmStart => warm_start_weld_joint(joints[at], a, b).velocities,
+            Work::RevoluteSolve => {
                 let s = solve_revolute_joint(joints[at], context, a, b, stage == 1);
                 joints[at] = solved_joint(s);
                 s.velocities
             }
-            4 => {
+            Work::SphericalSolve => {
                 let s = solve_spherical_joint(joints[at], context, a, b, stage == 1);
                 joints[at] = solved_joint(s);
                 s.velocities
             }
-            5 => {
+            Work::WeldSolve => {
                 let s = solve_weld_joint(joints[at], context, a, b, stage == 1);
                 joints[at] = solved_joint(s);
                 s.velocities
             }
-            _ => velocities_of(a, b),
+            Work::Nothing => velocities_of(a, b),
         };
         bodies[at_a] = store_velocities(bodies[at_a], v.v_a, v.w_a);
         bodies[at_b] = store_velocities(bodies[at_b], v.v_b, v.w_b);

@@ -19,15 +19,9 @@ fn is_still(count: u32, before: [BodyState; 32], after: [BodyState; 32]) -> bool
     requires { count ≤ 32 }
     ensures { result ≡ same_below count before after }
 {
-    let n = count as usize;
-    let mut k: usize = 0;
     let mut same = true;
-    while k < n {
-        let a = before[k];
-        let b = after[k];
-        let e = same_velocities(a, b);
-        same = same & e;
-        k += 1;
+    for k in 0..count as usize {
+        same = same & same_velocities(before[k], after[k]);
     }
     same
 }

@@ -10,13 +10,13 @@ use records::body::BodyState;
 fn same_float(x: f32, y: f32) -> bool
     ensures { result ≡ same_float x y }
 {
-    if x != x {
-        return y != y;
+    if x.is_nan() {
+        return y.is_nan();
     }
-    if y != y {
+    if y.is_nan() {
         return false;
     }
-    f32::to_bits(x) == f32::to_bits(y)
+    x.to_bits() == y.to_bits()
 }
 
 fn same_vector(v: Vec3, w: Vec3) -> bool

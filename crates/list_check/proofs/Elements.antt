@@ -1,18 +1,11 @@
--- Laws on single elements of the arrays, and on filling one. Assumes nothing.
-use mathlib.Core.Path.{◌≡◌, sym, ◌∙◌, refl}
+-- An array filled from another, one element after the other. Assumes nothing.
+use mathlib.Core.Path.{◌≡◌, sym, ◌∙◌}
 use mathlib.Core.List.{List, [], ◌∷◌, ◌++◌, append_assoc}
-use Prim.Native.Nat.{ℕ, zero, suc, ◌+◌, ◌<◌}
-use native.Mathlib.Nat.{le_of_suc-le-suc}
+use Prim.Native.Nat.{ℕ, suc, ◌+◌, ◌<◌}
 use native.Mathlib.Numerals.{add-one}
 use native.Mathlib.Omega.{arith}
 use lib.ListN.{length, get_or, set, take, drop}
 use lib.Seq.{set_at, take-suc, drop-cons, length-take-le}
-
--- in range the value past the end does not matter
-pub get_d_any {ℓ} : {A : Type ℓ} (l : List A) (i : ℕ) (d e : A) → i < length l → get_or l i d ≡ get_or l i e
-get_d_any [] i d e h = absurd (omega arith)
-get_d_any (a ∷ l) zero d e h = refl
-get_d_any (a ∷ l) (suc i) d e h = get_d_any l i d e (le_of_suc-le-suc h)
 
 -- filling an array from another
 pub fill_more {ℓ} : {A : Type ℓ} (bs o w : List A) (k : ℕ) (d : A) → w ≡ take k bs ++ drop k o → k < length bs → k < length o

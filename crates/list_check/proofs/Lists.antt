@@ -1,15 +1,17 @@
--- Laws on the calls of a list, as a loop goes through its bytes, and on its tests. Assumes nothing.
+-- Laws on the calls of a list, as a loop goes through its pairs of bytes, and on its tests. Assumes nothing.
 use mathlib.Core.Path.{◌≡◌, refl, sym, ap, ◌∙◌}
 use mathlib.Core.Logic.{◌≢◌}
 use mathlib.Core.Bool.{Bool, true, false, cond, ◌||◌}
 use mathlib.Core.List.{List, [], ◌∷◌, ◌++◌, map, append-nil}
-use Prim.Native.Nat.{ℕ, suc, ◌+◌, ◌%◌, ◌≤◌, ◌<◌}
+use Prim.Native.Nat.{ℕ, zero, suc, ◌+◌, ◌*◌, ◌/◌, ◌%◌, ◌≤◌, ◌<◌}
 use native.Mathlib.Numerals.{add-one, add-two}
 use native.Mathlib.Omega.{arith}
 use lib.Dec.{eqb, ltb, leb}
 use lib.ListN.{length, get_or, set, take, drop, length-drop, length-map, replicate, length-replicate, get_or-map}
+use Rattle.std.proofs.lemmas.List.{get_or-take, get_or-drop, get_or_default}
 use lib.Seq.{drop-cons, take_all}
-use borrow.Author.Tests.{eq-eqb, ne_eqb, eqb-false, ltb-false, leb-false}
+use borrow.Author.Tests.{eq-eqb, ne_eqb, ltb-false, leb-false}
+use Rattle.std.specs.Simd.{first_chunks}
 use Rattle.records.specs.declared.joint.JointSim.{JointSim}
 use Rattle.scene.specs.declared.Scene.{Scene}
 use Rattle.scene.specs.Plain.{Verdict}
@@ -17,7 +19,7 @@ use Rattle.records.specs.Joint.{unused_joint}
 use Rattle.scene.specs.Calls.{call, calls}
 use Rattle.scene.specs.Plain.{joint_cause, stage_cause, cause, verdict_of, first_cause, early_cause, verdict}
 use Rattle.list_check.specs.Causes.{joint_causes}
-use Rattle.list_check.proofs.Elements.{get_d_any, fill_more}
+use Rattle.list_check.proofs.Elements.{fill_more}
 
 -- ---- the call at a byte
 
@@ -27,21 +29,50 @@ short_calls (x ∷ []) h = refl
 short_calls (x ∷ y ∷ m) h = absurd (omega arith)
 
 module _ (l : List ℕ) (i : ℕ) where
-  pub calls_here : i + 1 < length l → calls (drop i l) ≡ call (get_or l i 0) (get_or l (i + 1) 0) ∷ calls (drop (i + 2) l)
+  calls_here : i + 1 < length l → calls (drop i l) ≡ call (get_or l i 0) (get_or l (i + 1) 0) ∷ calls (drop (i + 2) l)
   calls_here h =
       let a : i < length l = omega arith in
       let b : suc i < length l = omega arith in
       rw (add-one i, add-two i, drop-cons l i 0 a, drop-cons l (suc i) 0 b)
 
   -- a last byte by itself is no call
-  pub calls_end : length l ≤ i + 1 → calls (drop i l) ≡ []
+  calls_end : length l ≤ i + 1 → calls (drop i l) ≡ []
   calls_end h = short_calls (drop i l) (rw (length-drop i l) (omega arith))
+
+-- a byte of a pair
+pair_byte : (m k j : ℕ) (l : List ℕ) → k < m → j < 2 → get_or (get_or (first_chunks 2 m l) k []) j 0 ≡ get_or l (2 * k + j) 0
+pair_byte zero k j l h b = absurd (omega arith)
+pair_byte (suc m) zero j l h b =
+    let e : 2 * 0 + j ≡ j = omega arith in
+    rw e (get_or-take 2 l j 0 b)
+pair_byte (suc m) (suc k) j l h b =
+    let e : 2 * suc k + j ≡ 2 + (2 * k + j) = omega arith in
+    rw e (pair_byte m k j (drop 2 l) (omega arith) b ∙ get_or-drop 2 l (2 * k + j) 0)
+
+-- the pairs that the loops go through, and the call in the pair `k`
+module _ (l : List ℕ) (pairs : List (List ℕ)) (k : ℕ) (front : pairs ≡ first_chunks 2 (length l / 2) l) (many : length pairs ≡ length l / 2) where
+  abbrev pub slot_at : ℕ
+  slot_at = get_or (get_or pairs k []) 0 0
+
+  abbrev pub stage_at : ℕ
+  stage_at = get_or (get_or pairs k []) 1 0
+
+  pub call_here : k < length pairs → calls (drop (2 * k) l) ≡ call slot_at stage_at ∷ calls (drop (2 * (k + 1)) l)
+  call_here h =
+      let m : k < length l / 2 = rw many at h in
+      let slot : slot_at ≡ get_or l (2 * k + 0) 0 = rw front (pair_byte (length l / 2) k 0 l m (omega arith)) in
+      let stage : stage_at ≡ get_or l (2 * k + 1) 0 = rw front (pair_byte (length l / 2) k 1 l m (omega arith)) in
+      let start : 2 * k + 0 ≡ 2 * k = omega arith in
+      let next : 2 * (k + 1) ≡ 2 * k + 2 = omega arith in
+      rw (slot, stage, start, next) (calls_here l (2 * k) (omega arith))
+
+  pub no_call_left : length pairs ≤ k → calls (drop (2 * k) l) ≡ []
+  no_call_left h = calls_end l (2 * k) (omega arith)
 
 -- ---- the tests before the calls
 
 pub record NoEarly (body_count joint_count bytes : ℕ) : Type 0 where
   pub few_joints : joint_count ≤ 32
-  pub even : bytes % 2 ≡ 0
   pub short : bytes ≤ 8192
 
 no_early : (n m l : ℕ) → early_cause n m l ≡ 0 → NoEarly n m l
@@ -53,7 +84,7 @@ no_early n m l e = by (ltb 32 n) (ltb 32 m) (eqb (l % 2) 1) (ltb 8192 l) refl re
     by false true c d q r t e = absurd (omega arith)
     by false false true d q r t e = absurd (omega arith)
     by false false false true q r t e = absurd (omega arith)
-    by false false false false q r t e = record { few_joints = ltb-false 32 m q; even = omega (arith, eqb-false (l % 2) 1 r); short = ltb-false 8192 l t }
+    by false false false false q r t e = record { few_joints = ltb-false 32 m q; short = ltb-false 8192 l t }
 
 module _ (s : Scene) (l : List ℕ) (c : ℕ) (is : c ≡ early_cause s.body_count s.joint_count (length l)) where
   pub early_none : c ≡ 0 → NoEarly s.body_count s.joint_count (length l)
@@ -69,16 +100,19 @@ module _ (s : Scene) (l : List ℕ) (c : ℕ) (is : c ≡ early_cause s.body_cou
 
 -- ---- the check's loop
 
-module _ (l : List ℕ) (i : ℕ) (s : Scene) (p : ℕ) (z : Verdict) (q : first_cause s p (calls (drop i l)) ≡ z) where
-  pub check_more : (c : ℕ) → i + 1 < length l → c ≡ cause s (call (get_or l i 0) (get_or l (i + 1) 0)) → c ≡ 0
-      → first_cause s (p + 1) (calls (drop (i + 2) l)) ≡ z
-  check_more c h e o = rw (eq-eqb (cause s (call (get_or l i 0) (get_or l (i + 1) 0))) 0 (sym e ∙ o)) at (rw (calls_here l i h) at q)
+module _ (l : List ℕ) (pairs : List (List ℕ)) (k : ℕ) (front : pairs ≡ first_chunks 2 (length l / 2) l) (many : length pairs ≡ length l / 2)
+    (s : Scene) (z : Verdict) (q : first_cause s k (calls (drop (2 * k) l)) ≡ z) where
+  abbrev here : ℕ
+  here = cause s (call (slot_at l pairs k front many) (stage_at l pairs k front many))
 
-  pub check_stop : (c : ℕ) → i + 1 < length l → c ≡ cause s (call (get_or l i 0) (get_or l (i + 1) 0)) → c ≢ 0 → verdict_of c p ≡ z
-  check_stop c h e o = rw e (rw (ne_eqb (cause s (call (get_or l i 0) (get_or l (i + 1) 0))) 0 (λ x. o (e ∙ x))) at (rw (calls_here l i h) at q))
+  pub check_more : (c : ℕ) → k < length pairs → c ≡ here → c ≡ 0 → first_cause s (k + 1) (calls (drop (2 * (k + 1)) l)) ≡ z
+  check_more c h e o = rw (eq-eqb here 0 (sym e ∙ o)) at (rw (call_here l pairs k front many h) at q)
 
-  pub check_end : length l ≤ i → verdict_of 0 0 ≡ z
-  check_end h = rw (calls_end l i (omega (arith, h))) at q
+  pub check_stop : (c : ℕ) → k < length pairs → c ≡ here → c ≢ 0 → verdict_of c k ≡ z
+  check_stop c h e o = rw e (rw (ne_eqb here 0 (λ x. o (e ∙ x))) at (rw (call_here l pairs k front many h) at q))
+
+  pub check_end : length pairs ≤ k → verdict_of 0 0 ≡ z
+  check_end h = rw (no_call_left l pairs k front many h) at q
 
 -- a call's cause, where its slot is past the last joint, and where it holds a joint, from the table of the joints' causes
 pub slot_cause_is : (s : Scene) (slot stage : ℕ) (b : Bool) → b ≡ leb s.joint_count slot → b ≡ true → 4 ≡ cause s (call slot stage)
@@ -98,7 +132,7 @@ stage_cause_is s causes slot stage d c b long low table e f is =
     let of : JointSim → ℕ = λ joint. joint_cause s.body_count joint.union_ in
     let wide : slot < length (map of s.joints) = rw (length-map s.joints of, long) (omega (arith, within s.joint_count slot b e f, low)) in
     let same : get_or causes slot d ≡ of (get_or s.joints slot unused_joint) =
-    rw table (get_d_any (map of s.joints) slot d (of unused_joint) wide ∙ get_or-map of s.joints slot unused_joint) in
+    rw table (get_or_default (map of s.joints) slot d (of unused_joint) wide ∙ get_or-map of s.joints slot unused_joint) in
     is ∙ rw (sym e ∙ f) (ap (λ x. stage_cause x stage) same)
 
 -- filling the table of causes

@@ -13,12 +13,7 @@ use scene::{Scene, Verdict};
 fn is_other(union_: JointUnion) -> bool
     ensures { result ≡ is_other union_ }
 {
-    match union_ {
-        JointUnion::Revolute(_) => false,
-        JointUnion::Spherical(_) => false,
-        JointUnion::Weld(_) => false,
-        JointUnion::Other => true,
-    }
+    matches!(union_, JointUnion::Other)
 }
 
 // The causes of a refusal that only the joint decides: 1, 2, 3, or 0.
@@ -35,14 +30,9 @@ fn joint_cause(body_count: u32, union_: JointUnion) -> u32
 fn joint_causes(scene: Scene) -> [u32; 32]
     ensures { result ≡ joint_causes scene }
 {
-    let mut causes = [0u32; 32];
-    let mut k: usize = 0;
-    while k < 32 {
-        let joint = scene.joints[k];
-        let union_ = joint.union_;
-        let cause = joint_cause(scene.body_count, union_);
-        causes[k] = cause;
-        k += 1;
+    let mut causes = [0; 32];
+    for k in 0..32 {
+        causes[k] = joint_cause(scene.body_count, scene.joints[k].union_);
     }
     causes
 }
@@ -97,23 +87,19 @@ pub fn check_list(scene: Scene, list: &[u8]) -> Verdict
         };
     }
     let causes = joint_causes(scene);
-    let mut i: usize = 0;
-    let mut place: u32 = 0;
-    while i < n {
-        let slot = list[i];
+    let (calls, _) = list.as_chunks::<2>();
+    for (place, &[slot, stage]) in calls.iter().enumerate() {
+        let place = place as u32;
         if is_past(scene.joint_count, slot) {
             return Verdict { number: 4, place };
         }
-        let of_joint = causes[slot as usize];
-        let cause = stage_cause(of_joint, list[i + 1]);
+        let cause = stage_cause(causes[slot as usize], stage);
         if cause != 0 {
             return Verdict {
                 number: cause,
                 place,
             };
         }
-        i += 2;
-        place += 1;
     }
     Verdict {
         number: 0,

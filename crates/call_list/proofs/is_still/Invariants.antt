@@ -1,10 +1,7 @@
 -- `same` is the answer for the bodies below `k`.
-use Rattle.std.proofs.Common.{◌≡◌, ◌-◌, ◌≤◌}
+use Rattle.std.proofs.Common.{◌≡◌}
 use Rattle.scene.specs.Plain.{same_below}
 use Rattle.call_list.proofs.is_still.Given as goal
 
 abbrev pub invariant-loop-k : goal.invariant-loop-k
-invariant-loop-k l = record { within : l.k ≤ l.n; so_far : l.same ≡ same_below l.k l.before l.after }
-
-abbrev pub decreases-loop-k : goal.decreases-loop-k
-decreases-loop-k l = l.n - l.k
+invariant-loop-k l = l.same ≡ same_below l.k l.before l.after

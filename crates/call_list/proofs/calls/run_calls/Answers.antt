@@ -1,57 +1,66 @@
--- `run_calls` equals its definition: `bodies` and `joints` are those after the first `k` calls. Assumes nothing.
-use mathlib.Core.Path.{◌≡◌, ap, ◌∙◌}
-use Prim.Native.Nat.{◌<◌}
-use native.Mathlib.Omega.{arith}
+-- `run_calls` equals its definition: `bodies` and `joints` are those after the first calls. Assumes nothing.
+use Rattle.std.proofs.Common.{◌≡◌, ap, ◌∙◌, ◌<◌, arith}
 use lib.ListN.{set}
 use Rattle.records.specs.declared.joint.JointSim.{JointSim}
+use Rattle.list_check.proofs.Lists.{slot_at, stage_at}
+use Rattle.call_list.proofs.StageCodes.{code, coded, nothing}
 use Rattle.call_list.proofs.Arms.{worked_warm, worked_solve, worked_none}
 use Rattle.call_list.proofs.OneCall.{call_worked}
 use Rattle.call_list.proofs.Loop.{invariant_more, invariant_done}
 use Rattle.call_list.proofs.calls.run_calls.Goals as goal
-use Rattle.call_list.proofs.calls.run_calls.Goals.{in-0, in-1, in-2, in-3, in-4, in-5, in_default}
+use Rattle.call_list.proofs.calls.run_calls.Goals.{in-RevoluteWarmStart, in-SphericalWarmStart, in-WeldWarmStart}
+use Rattle.call_list.proofs.calls.run_calls.Goals.{in-RevoluteSolve, in-SphericalSolve, in-WeldSolve, in-Nothing}
 
-pub loop-k-preserved : goal.loop-k-preserved
-loop-k-preserved c =
+pub loop-slot-preserved : goal.loop-slot-preserved
+unfolding code
+loop-slot-preserved c =
     let s = c.args.scene in
     let l = c.args.list.now in
-    let w = c.loop-k.invariant in
-    let js = c.loop-k.joints in
-    let call = c.call_at-slot in
+    let pairs = c.as_chunks.result.0.now in
+    let k = c.loop-slot.slot-index in
+    let front = c.as_chunks.ensures.front in
+    let many = c.as_chunks.ensures.front_len in
+    let slot = slot_at l pairs k front many in
+    let stage = stage_at l pairs k front many in
+    let w = c.loop-slot.invariant in
+    let js = c.loop-slot.joints in
     let at = c.joint_position-at in
     let positions = c.positions_of-at_a in
-    let code = c.stage_code in
-    let m = c.match-stage_code in
+    let m = c.match-work_of in
     let a = c.store_velocities in
-    let b = c.store_velocities-in-loop-k in
+    let b = c.store_velocities-in-loop-slot in
     let low0 : 0 < 3 = omega arith in
     let low1 : 1 < 3 = omega arith in
     let low2 : 2 < 3 = omega arith in
-    let warm = worked_warm js at.result _ s.context _ _ call.result.slot call.result.stage code.result m.joints m.v code.ensures in
-    let solve = worked_solve js at.result _ s.context _ _ call.result.slot call.result.stage code.result m.joints m.v code.ensures in
-    let none = worked_none js at.result _ s.context _ _ call.result.slot call.result.stage code.result m.joints m.v code.ensures in
+    let is = coded c.work_of.result slot _ stage c.work_of.ensures in
+    let warm = worked_warm js at.result _ s.context _ _ slot stage (code c.work_of.result) m.joints m.v is in
+    let solve = worked_solve js at.result _ s.context _ _ slot stage (code c.work_of.result) m.joints m.v is in
+    let none = worked_none js at.result _ s.context _ _ slot stage (code c.work_of.result) m.joints m.v is in
     let stored = λ (x y : JointSim) (e : x ≡ y). ap (set js at.result) e in
     let worked =
-    call_worked s js w.bodies c.loop-k.bodies call.result.slot call.result.stage at.result positions.result.at_a positions.result.at_b _ _
+    call_worked s js w.bodies c.loop-slot.bodies slot stage at.result positions.result.at_a positions.result.at_b _ _
     a.result b.result m.joints m.v w.long_bodies w.long_joints w.holds a.ensures b.ensures at.ensures.1
     (ap (λ x. x.at_a) positions.ensures.2) (ap (λ x. x.at_b) positions.ensures.2)
     (elim m.branch [
-      | in-0 z ↦ warm 0 z.warm_start_revolute_joint.result z.in-0.is low0 z.warm_start_revolute_joint.ensures z.joints-is z.v-is
-      | in-1 z ↦ warm 1 z.warm_start_spherical_joint.result z.in-1.is low1 z.warm_start_spherical_joint.ensures z.joints-is z.v-is
-      | in-2 z ↦ warm 2 z.warm_start_weld_joint.result z.in-2.is low2 z.warm_start_weld_joint.ensures z.joints-is z.v-is
-      | in-3 z ↦ solve 0 z.solve_revolute_joint-s.result z.in-3.is low0 z.solve_revolute_joint-s.ensures
+      | in-RevoluteWarmStart z ↦ warm 0 z.warm_start_revolute_joint.result (ap code z.in-RevoluteWarmStart.is) low0
+          z.warm_start_revolute_joint.ensures z.joints-is z.v-is
+      | in-SphericalWarmStart z ↦ warm 1 z.warm_start_spherical_joint.result (ap code z.in-SphericalWarmStart.is) low1
+          z.warm_start_spherical_joint.ensures z.joints-is z.v-is
+      | in-WeldWarmStart z ↦ warm 2 z.warm_start_weld_joint.result (ap code z.in-WeldWarmStart.is) low2
+          z.warm_start_weld_joint.ensures z.joints-is z.v-is
+      | in-RevoluteSolve z ↦ solve 0 z.solve_revolute_joint-s.result (ap code z.in-RevoluteSolve.is) low0 z.solve_revolute_joint-s.ensures
           (z.joints-is ∙ stored _ _ z.solved_joint.ensures) z.v-is
-      | in-4 z ↦ solve 1 z.solve_spherical_joint-s.result z.in-4.is low1 z.solve_spherical_joint-s.ensures
-          (z.joints-is ∙ stored _ _ z.solved_joint-in-4.ensures) z.v-is
-      | in-5 z ↦ solve 2 z.solve_weld_joint-s.result z.in-5.is low2 z.solve_weld_joint-s.ensures
-          (z.joints-is ∙ stored _ _ z.solved_joint-in-5.ensures) z.v-is
-      | in_default z ↦ none (omega arith) z.joints-is (z.v-is ∙ z.velocities_of-v.ensures)
+      | in-SphericalSolve z ↦ solve 1 z.solve_spherical_joint-s.result (ap code z.in-SphericalSolve.is) low1 z.solve_spherical_joint-s.ensures
+          (z.joints-is ∙ stored _ _ z.solved_joint-in-SphericalSolve.ensures) z.v-is
+      | in-WeldSolve z ↦ solve 2 z.solve_weld_joint-s.result (ap code z.in-WeldSolve.is) low2 z.solve_weld_joint-s.ensures
+          (z.joints-is ∙ stored _ _ z.solved_joint-in-WeldSolve.ensures) z.v-is
+      | in-Nothing z ↦ none (nothing _ z.in-Nothing.is) z.joints-is (z.v-is ∙ z.velocities_of-v.ensures)
     ])
     in
-    invariant_more s l js c.loop-k.bodies c.loop-k.k w _ _ _ m.joints (omega (arith, c.loop-k-test.true, c.call_count-k-end.ensures))
-    call.ensures.0 call.ensures.1 worked
+    invariant_more s l pairs js c.loop-slot.bodies k w front many _ m.joints c.loop-slot-test.true worked
 
 pub returns : goal.returns
 returns c =
     c.scene_left.ensures
-    ∙ invariant_done c.args.scene c.args.list.now c.loop-k.joints c.loop-k.bodies c.loop-k.k c.loop-k.invariant
-    (omega (arith, c.loop-k-test.false, c.call_count-k-end.ensures))
+    ∙ invariant_done c.args.scene c.args.list.now c.as_chunks.result.0.now c.loop-slot.joints c.loop-slot.bodies c.loop-slot.slot-index
+    c.loop-slot.invariant c.as_chunks.ensures.front c.as_chunks.ensures.front_len c.loop-slot-test.false

@@ -1,5 +1,5 @@
--- `with_identity` equals its definition: the positions below `k` are filled. Assumes nothing.
-use Rattle.std.proofs.Common.{◌≡◌, ◌<◌, length, arith, rules}
+-- `with_identity` equals its definition: the elements below `k` are filled. Assumes nothing.
+use Rattle.std.proofs.Common.{◌≡◌, length, arith, rules}
 use lib.ListN.{replicate, length-replicate}
 use Rattle.records.specs.Body.{identity_body_state}
 use Rattle.list_check.proofs.Elements.{fill_more}
@@ -10,15 +10,11 @@ pub loop-k-preserved : goal.loop-k-preserved
 loop-k-preserved c =
     let bodies = c.args.scene.bodies in
     let long : length c.args.scene.bodies ≡ 32 = search rules in
-    let t : c.loop-k.k < 32 = c.loop-k-test.true in
-    record {
-      within = omega arith;
-      filled = fill_more bodies (replicate 33 identity_body_state) c.loop-k.out c.loop-k.k _ c.loop-k.invariant.filled (omega arith)
-          (rw (length-replicate 33 identity_body_state) (omega arith));
-    }
+    fill_more bodies (replicate 33 identity_body_state) c.loop-k.out c.loop-k.k _ c.loop-k.invariant (omega (arith, long, c.loop-k-test.true))
+    (rw (length-replicate 33 identity_body_state) (omega (arith, c.loop-k-test.true)))
 
 pub returns : goal.returns
 returns c =
     let long : length c.args.scene.bodies ≡ 32 = search rules in
     let k : c.loop-k.k ≡ 32 = omega arith in
-    fill_33 c.args.scene.bodies c.loop-k.out c.loop-k.k long k c.loop-k.invariant.filled
+    fill_33 c.args.scene.bodies c.loop-k.out c.loop-k.k long k c.loop-k.invariant

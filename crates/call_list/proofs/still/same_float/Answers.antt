@@ -1,21 +1,31 @@
--- `still::same_float` equals its definition: a NaN differs from itself, and what does not has a pattern. Assumes nothing.
-use mathlib.Core.Path.{sym, subst}
-use lib.Dec.{T}
-use Rattle.sqrt.proofs.Nans.{same_no_nan}
-use Rattle.scene.proofs.Still.{nan_same, nan_unlike, same_written}
+-- `still::same_float` equals its definition: what is no NaN has a pattern. Assumes nothing.
+use Rattle.std.proofs.Common.{◌≡◌, false, sym, ap, ◌∙◌, refl, subst, T}
+use mathlib.Core.Bool.{false≢true}
+use lib.Ieee.{Float, nan, inf, fin, is_nan}
+use Rattle.sqrt.proofs.Nans.{a_nan}
+use Rattle.scene.specs.Plain.{same_float}
+use Rattle.scene.proofs.Still.{same_written}
 use Rattle.call_list.proofs.still.same_float.Goals as goal
 
-pub returns-then-x : goal.returns-then-x
-returns-then-x c = nan_same c.args.x c.args.y c.if-x.true
+nan_first : (y : Float) → is_nan y ≡ same_float nan y
+unfolding same_float
+nan_first y = refl
 
-pub returns-then-y : goal.returns-then-y
-returns-then-y c = sym (nan_unlike c.args.x c.args.y c.if-x.false c.if-y.true)
+nan_last : (x : Float) → is_nan x ≡ false → false ≡ same_float x nan
+unfolding same_float is_nan
+nan_last nan h = absurd (false≢true (sym h))
+nan_last (inf s) h = refl
+nan_last (fin s m e) h = refl
 
-pub float_to_bits-result : goal.float_to_bits-result
-float_to_bits-result c = same_no_nan c.args.x c.if-x.false
+pub returns-then-is_nan : goal.returns-then-is_nan
+returns-then-is_nan c =
+    let x = a_nan c.args.x (sym c.is_nan.ensures.value ∙ c.if-is_nan.true) in
+    c.is_nan-then-is_nan.ensures.value ∙ nan_first c.args.y ∙ ap (λ z. same_float z c.args.y) (sym x)
 
-pub float_to_bits-result-2 : goal.float_to_bits-result-2
-float_to_bits-result-2 c = same_no_nan c.args.y c.if-y.false
+pub returns-then-is_nan-2 : goal.returns-then-is_nan-2
+returns-then-is_nan-2 c =
+    let y = a_nan c.args.y (sym c.is_nan-2.ensures.value ∙ c.if-is_nan-2.true) in
+    nan_last c.args.x (sym c.is_nan.ensures.value ∙ c.if-is_nan.false) ∙ ap (same_float c.args.x) (sym y)
 
 -- owning an `f32` tells that the format holds it
 pub returns : goal.returns
