@@ -5,7 +5,7 @@ use lib.ListN.{length, take}
 use lib.Seq.{take_at, drop_at}
 use Rattle.records.specs.declared.body.BodyState.{BodyState}
 use Rattle.records.specs.declared.joint.JointSim.{JointSim}
-use Rattle.direct.specs.declared.call.StageCall.{StageCall}
+use Rattle.direct.specs.Direct.{StageCall}
 use Rattle.direct.specs.Direct.{direct_call}
 use Rattle.lent_calls.specs.Lent.{beside, lent_calls}
 

@@ -3,34 +3,32 @@ use Rattle.std.proofs.Common.{◌≡◌, sym, ap, ◌∙◌, subst, ℕ, ◌+◌
 use Rattle.std.proofs.lemmas.List.{take_min, drop_all, length-take, length-drop, length-append}
 use Rattle.records.specs.declared.body.BodyState.{BodyState}
 use Rattle.records.specs.declared.joint.JointSim.{JointSim}
-use Rattle.direct.specs.declared.Answer.{Answer}
 use Rattle.direct.specs.Direct.{StageCall}
-use Rattle.direct.specs.Direct.{direct_call, Leaves}
+use Rattle.direct.specs.Direct.{CallAnswer, direct_call, Leaves}
 use Rattle.direct.proofs.Proved.{changes}
-use Rattle.lent_calls.specs.declared.Lent.{Lent}
-use Rattle.lent_calls.specs.Lent.{no_answer, beside, one_more, lent_calls}
+use Rattle.lent_calls.specs.Lent.{LentAnswer, no_answer, beside, one_more, lent_calls}
 
 drop_min : (k : ℕ) (xs : List BodyState) → drop (min k (length xs)) xs ≡ drop k xs
 drop_min k xs = grind (arith, drop_all)
 
-abbrev pub left : Answer → JointSim → List BodyState → Lent
+abbrev pub left : CallAnswer → JointSim → List BodyState → LentAnswer
 left answer joint states = record { answer = answer; joint = joint; states = states }
 
 -- `made` of `calls` calls on `joint` and `states` have answered and left `out`; the first `n` states are lent to each
-pub record Reached (call : StageCall) (joint : JointSim) (states : List BodyState) (body_count calls n made : ℕ) (out : Lent) : Type 0 where
+pub record Reached (call : StageCall) (joint : JointSim) (states : List BodyState) (body_count calls n made : ℕ) (out : LentAnswer) : Type 0 where
   pub lent : n ≡ min body_count 40
   pub within : made ≤ calls
   pub whole : length out.states ≡ 40
   pub holds : out ≡ lent_calls call joint states body_count made
 
 module _ (call : StageCall) (joint : JointSim) (states : List BodyState) (body_count calls n : ℕ) where
-  pub no_call : n ≡ min body_count 40 → length states ≡ 40 → (a : Answer) → a ≡ no_answer → Reached call joint states body_count calls n 0 (left a joint states)
+  pub no_call : n ≡ min body_count 40 → length states ≡ 40 → (a : CallAnswer) → a ≡ no_answer → Reached call joint states body_count calls n 0 (left a joint states)
   unfolding lent_calls
   no_call lent whole a a-is = record { lent = lent; within = omega arith; whole = whole; holds = ap (λ x. left x joint states) a-is }
 
   -- one call more, on what the one before it left
-  pub turn : {made : ℕ} {out : Lent} → Reached call joint states body_count calls n made out → made < calls
-      → (a : Answer) (j : JointSim) (t : List BodyState) → Leaves (direct_call call out.joint (take n out.states)) a j t
+  pub turn : {made : ℕ} {out : LentAnswer} → Reached call joint states body_count calls n made out → made < calls
+      → (a : CallAnswer) (j : JointSim) (t : List BodyState) → Leaves (direct_call call out.joint (take n out.states)) a j t
       → Reached call joint states body_count calls n (made + 1) (left a j (t ++ drop n out.states))
   unfolding lent_calls
   turn {made} {out} reached more a j t leaves =

@@ -25,7 +25,7 @@ pub struct Lent {
 }
 
 // How many states are lent: the body count, or all of them where there are not as many.
-// By `min` a revolute warm start in bench_direct has 328 instructions, so it has 280: the count is then not known in it.
+// Speed: by `min` a revolute warm start in bench_direct has 328 instructions, so it has 280.
 fn lent_count(body_count: usize) -> usize
     ensures { result ≡ min body_count 40 }
 {
@@ -147,8 +147,8 @@ pub fn lend_solve_spherical_joint(
     })
 }
 
-// (b) By `lend_calls`, as the others, a weld's solve in bench_direct has 1,290 instructions, so it has 1,208. The
-// first call stands before the loop, so that the direct call has two callers here and stays a call.
+// Speed: by `lend_calls`, as the others, a weld's solve in bench_direct has 1,290 instructions, so it has
+// 1,208. The first call stands before the loop, so that the direct call has two callers and stays a call.
 pub fn lend_solve_weld_joint(
     mut joint: JointSim,
     context: StepContext,
