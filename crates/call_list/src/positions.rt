@@ -15,8 +15,8 @@ pub struct Positions {
 }
 
 // An index's position among 32 bodies and the identity state after them: that of the identity state
-// for -1, and for an index past them. (b) By `usize::try_from` a weld's warm start in the program bench has
-// 343 instructions, so it has 319.
+// for -1, and for an index past them.
+// Speed: by `usize::try_from` a weld's warm start in the program bench has 343 instructions, so it has 319.
 fn body_position(index: i32) -> usize
     ensures { (result < 33) × (result ≡ D.body_position index) }
 {
@@ -50,6 +50,8 @@ pub enum Work {
 }
 
 // The work past the last slot is none.
+// Speed: each arm of `work_of` tests the slot; with one test behind them a weld's warm start in the program
+// bench has 23 instructions more, of 319.
 fn in_slot(slot: u8, work: Work) -> Work
     ensures { result ≡ D.in_slot slot work }
 {
@@ -90,8 +92,9 @@ pub fn joint_position(slot: u8) -> usize
     if position < 32 { position } else { 0 }
 }
 
-// The bodies of a scene, and the identity state after them. (b) By `copy_from_slice`, here and below, a warm
-// start in the program bench has 7 instructions more, of some 350: whole scenes are then copied.
+// The bodies of a scene, and the identity state after them.
+// Speed: by `copy_from_slice`, here and below, a weld's warm start in the program bench has 326 instructions,
+// so it has 319: whole scenes are then copied.
 pub fn with_identity(scene: Scene) -> [BodyState; 33]
     ensures { result ≡ D.with_identity scene.bodies }
 {
