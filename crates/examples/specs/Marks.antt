@@ -1,9 +1,9 @@
 -- The scenes behind what docs/CAPTIONS.md says of the marks, and for each the figures that the definitions give: direct solves without bias, unless a line says
 -- otherwise, and prepares. Statements and the definitions that they cite. Assumes nothing.
-use Rattle.std.specs.Prelude.{◌≡◌, ℕ, Bool, true, false, [], ◌∷◌, pos, Float}
+use Rattle.std.specs.Prelude.{◌≡◌, ℕ, Bool, true, false, [], ◌∷◌, pos, Float, Option, Some, None}
 use Rattle.std.specs.Float.{nan}
 use Rattle.math_functions.specs.declared.mark.Mark.{Mark}
-use Rattle.math_functions.specs.declared.mark.Mark.TheVariants.{None, Solved, FellBack}
+use Rattle.math_functions.specs.declared.mark.Mark.TheVariants.{Solved, FellBack}
 use Rattle.math_functions.specs.Float.{lit, neg, zero, one, two}
 use Rattle.math_functions.specs.Types.{vec3, matrix3, vec3_zero, mat3_zero, transform_identity}
 use Rattle.solver.specs.declared.StepContext.{StepContext}
@@ -97,7 +97,7 @@ impulse_x r = linear_impulse_x r.joint.union_
 abbrev speed_x : Outcome → ℕ → Float
 speed_x r n = (state_at r.states (pos n)).linear_velocity.x
 
-abbrev Marks : Outcome → Mark → Mark → Type 0
+abbrev Marks : Outcome → Option Mark → Option Mark → Type 0
 Marks r perp point = r.answer.report ≡ report perp point
 
 abbrev apart_x : JointUnion → Float
@@ -107,10 +107,10 @@ apart_x (Weld j) = j.delta_center.x
 apart_x Other = nan
 
 -- prepare's mark of a weld and of a ball joint between the world and a body
-abbrev weld_mark : BodyRecord → Mark
+abbrev weld_mark : BodyRecord → Option Mark
 weld_mark body_b = (prepare_weld_joint (weld_with zero zero zero) half_second fixed body_b).mass_mark
 
-abbrev ball_mark : BodyRecord → Mark
+abbrev ball_mark : BodyRecord → Option Mark
 ball_mark body_b =
     (prepare_spherical_joint (joint_sim (joint_base Kind.Spherical) (Spherical default_spherical) no_angles) half_second fixed body_b).mass_mark
 
@@ -142,43 +142,43 @@ pulled = solve_once weld false (welded (weld_with zero zero zero) free0 free1) (
 
 pub record ShownMarks : Type 0 where
   -- impulse 0 of a joint at rest: solved
-  pub rest_solved : Marks at_rest None Solved
+  pub rest_solved : Marks at_rest None (Some Solved)
   pub rest_impulse : impulse_x at_rest ≡ zero
   -- impulse 0 of a joint whose matrix is too flat: fell back, and the blocks go on at 0 and 2
-  pub flat_fell_back : Marks flat None FellBack
+  pub flat_fell_back : Marks flat None (Some FellBack)
   pub flat_impulse : impulse_x flat ≡ zero
   pub flat_speeds : (speed_x flat 0 ≡ zero) × (speed_x flat 1 ≡ two)
   -- 'fell back means that the impulse is zero': one of 1 that was stored stays
-  pub pushed_fell_back : Marks (flat_pushed false) None FellBack
+  pub pushed_fell_back : Marks (flat_pushed false) None (Some FellBack)
   pub pushed_impulse : impulse_x (flat_pushed false) ≡ one
   -- 'a row that fell back leaves its impulse as it was': with bias, and a softness that lets go of what is stored, it is 0
-  pub let_go_fell_back : Marks (flat_pushed true) None FellBack
+  pub let_go_fell_back : Marks (flat_pushed true) None (Some FellBack)
   pub let_go_impulse : impulse_x (flat_pushed true) ≡ zero
   -- 'solved means that the parts stay together': blocks that are not dynamic go on at 0 and 2; two that are 2 apart, at rest, are left at rest
-  pub unmoved_solved : Marks unmoved None Solved
+  pub unmoved_solved : Marks unmoved None (Some Solved)
   pub unmoved_speeds : (speed_x unmoved 0 ≡ zero) × (speed_x unmoved 1 ≡ two)
-  pub apart_solved : Marks apart None Solved
+  pub apart_solved : Marks apart None (Some Solved)
   pub apart_by_two : apart_x apart.joint.union_ ≡ two
   pub apart_speeds : (speed_x apart 0 ≡ zero) × (speed_x apart 1 ≡ zero)
   -- 'solved, and an impulse of 0, means that the parts are at rest against each other': an infinite determinant passes, and the blocks go on at 0 and 2
-  pub light_solved : Marks light None Solved
+  pub light_solved : Marks light None (Some Solved)
   pub light_impulse : impulse_x light ≡ zero
   pub light_speeds : (speed_x light 0 ≡ zero) × (speed_x light 1 ≡ two)
   -- 'no mark means that the joint was not worked': a hinge whose rotation is fixed has none at its perpendicular row, and its point row brings the block from
   -- 2 to 0
-  pub fixed_hinge : Marks (solve_once revolute false (hinged free0) (moving two) (moving zero)) None Solved
+  pub fixed_hinge : Marks (solve_once revolute false (hinged free0) (moving two) (moving zero)) None (Some Solved)
   pub fixed_hinge_speed : speed_x (solve_once revolute false (hinged free0) (moving two) (moving zero)) 0 ≡ zero
   -- a hinge that can turn has both
-  pub free_hinge : Marks (solve_once revolute false (hinged turns0) (moving two) (moving zero)) Solved Solved
+  pub free_hinge : Marks (solve_once revolute false (hinged turns0) (moving two) (moving zero)) (Some Solved) (Some Solved)
   -- 'where one row of a hinge fell back, the hinge does not hold': its point row brings the block from 2 to 0
-  pub slim_hinge : Marks (solve_once revolute false (hinged slim0) (moving two) (moving zero)) FellBack Solved
+  pub slim_hinge : Marks (solve_once revolute false (hinged slim0) (moving two) (moving zero)) (Some FellBack) (Some Solved)
   pub slim_hinge_speed : speed_x (solve_once revolute false (hinged slim0) (moving two) (moving zero)) 0 ≡ zero
   -- prepare: a mass that was inverted, one that was not since rotation is fixed, and a weld's, which is inverted all the same
-  pub ball_turns : ball_mark turns0 ≡ Solved
+  pub ball_turns : ball_mark turns0 ≡ Some Solved
   pub ball_fixed : ball_mark free0 ≡ None
-  pub weld_turns : weld_mark turns0 ≡ Solved
-  pub weld_fixed : weld_mark free0 ≡ FellBack
+  pub weld_turns : weld_mark turns0 ≡ Some Solved
+  pub weld_fixed : weld_mark free0 ≡ Some FellBack
   -- 'where the mass fell back at prepare, the joint does no work': these blocks cannot turn, and are brought from 0 and 2 to 1 and 1
-  pub no_inertia : (prepare_weld_joint (weld_with zero zero zero) half_second free0 free1).mass_mark ≡ FellBack
+  pub no_inertia : (prepare_weld_joint (weld_with zero zero zero) half_second free0 free1).mass_mark ≡ Some FellBack
   pub works_all_the_same : (speed_x pulled 0 ≡ one) × (speed_x pulled 1 ≡ one)
   pub work_impulse : impulse_x pulled ≡ neg one

@@ -3,6 +3,7 @@
 #![tactic(auto)]
 
 ghost use Rattle.std.specs.Prelude.{◌≡◌};
+ghost use Rattle.constraint.specs.Answer.{prepare_answer};
 ghost use Rattle.joint.specs.Prepare.{prepare_joint};
 
 use constraint::answer::Prepared;
@@ -43,7 +44,7 @@ pub const STEP: StepContext = StepContext {
 
 // What prepare answers of a model's joint.
 pub fn prepare(model: Model, context: StepContext) -> Prepared
-    ensures { result ≡ prepare_joint model.joint context model.body_a model.body_b }
+    ensures { prepare_answer result ≡ prepare_joint model.joint context model.body_a model.body_b }
 {
     prepare_joint(model.joint, context, model.body_a, model.body_b)
 }
