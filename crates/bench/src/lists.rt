@@ -37,9 +37,10 @@ pub fn run_lists(kind: Option<Kind>, stage: Option<u8>, repeats: u32) -> u32 {
     let mut scene = wall(kind);
     let mut still = 0u32;
     for n in 0..repeats {
-        let run = run_list(scene, &list);
-        scene = run.scene;
-        still += u32::from(run.still);
+        if let Ok(run) = run_list(scene, &list) {
+            scene = run.scene;
+            still += u32::from(run.still);
+        }
     }
     add_word(sum_scene(scene), still)
 }

@@ -71,10 +71,17 @@ fn print_scene(rt: &impl Print, scene: Scene) -> io::Result<()> {
 
 // What a run of the list answers and leaves.
 pub fn print_run(rt: &impl Print, scene: Scene, list: &[u8]) -> io::Result<()> {
-    let run = run_list(scene, list);
-    let still = if run.still { "still" } else { "not still" };
-    println!(rt; "number {}, place {}, {still}", run.number, run.place)?;
-    print_scene(rt, run.scene)
+    match run_list(scene, list) {
+        Ok(run) => {
+            let still = if run.still { "still" } else { "not still" };
+            println!(rt; "number 0, place 0, {still}")?;
+            print_scene(rt, run.scene)
+        }
+        Err(refusal) => {
+            println!(rt; "{refusal}, not still")?;
+            print_scene(rt, scene)
+        }
+    }
 }
 
 fn main(rt: HostRuntime) -> io::Result<()> {

@@ -74,7 +74,7 @@ impl fmt::Display for Shown<JointUnion> {
 impl fmt::Display for Shown<JointSim> {
     fn fmt<W: fmt::Write>(&self, f: &mut fmt::Formatter<W>) -> fmt::Result {
         let pushes = Shown(self.0.union_);
-        let code = stop_code(self.0).code;
+        let code = stop_code(self.0).unwrap_or(0);
         write!(f, "{pushes}, stop code {code}")
     }
 }

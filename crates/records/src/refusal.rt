@@ -2,6 +2,9 @@
 ghost use Rattle.std.specs.Prelude.{◌≡◌};
 ghost use Rattle.records.specs.Refusal as D;
 
+use std::error::Error;
+use std::fmt;
+
 // The joint's case is not the kind called, or not one of the three. A stage by value and the stop code
 // are refused for nothing else.
 #[derive(Clone, Copy, PartialEq, Eq, Debug)]
@@ -65,3 +68,36 @@ impl From<Cause> for Refusal {
         Refusal { cause, place: 0 }
     }
 }
+
+impl fmt::Display for WrongKind {
+    fn fmt<W: fmt::Write>(&self, f: &mut fmt::Formatter<W>) -> fmt::Result {
+        f.write_str("the joint is not of the kind called")
+    }
+}
+
+impl fmt::Display for Cause {
+    fn fmt<W: fmt::Write>(&self, f: &mut fmt::Formatter<W>) -> fmt::Result {
+        f.write_str(match self {
+            Cause::Kind => "the joint is not of the kind called, or of none of the three",
+            Cause::FirstIndex => "the joint's first body index is out of range",
+            Cause::SecondIndex => "the joint's second body index is out of range",
+            Cause::Slot => "the slot is past the last joint",
+            Cause::Stage => "the stage is above 2",
+            Cause::Count => "a count is above 32",
+            Cause::Length => "the list is of odd length, or too long",
+        })
+    }
+}
+
+// By number and place, as the papers have it.
+impl fmt::Display for Refusal {
+    fn fmt<W: fmt::Write>(&self, f: &mut fmt::Formatter<W>) -> fmt::Result {
+        write!(f, "number {}, place {}", self.cause.number(), self.place)
+    }
+}
+
+impl Error for WrongKind {}
+
+impl Error for Cause {}
+
+impl Error for Refusal {}
