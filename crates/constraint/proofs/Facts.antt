@@ -28,16 +28,16 @@ max_float_non_negative x = record { compares = go (gt x zero) refl }
     go true h = rw h
     go false h = refl
 
-pub limit_impulse_non_negative : (s : SoftBias) (mass cdot old : Float) → NonNegative (limit_impulse s mass cdot old)
+pub limit_impulse_non_negative : (s : SoftBias Float) (mass cdot old : Float) → NonNegative (limit_impulse s mass cdot old)
 unfolding limit_impulse
 limit_impulse_non_negative s mass cdot old = max_float_non_negative _
 
-pub lower_limit_row_non_negative : (s : SoftBias) (mass : Float) (axis : Vec3) (old : Float) (m : InvMasses) (v : Velocities) → NonNegative
+pub lower_limit_row_non_negative : (s : SoftBias Float) (mass : Float) (axis : Vec3) (old : Float) (m : InvMasses) (v : Velocities) → NonNegative
     (lower_limit_row s mass axis old m v).impulse
 unfolding lower_limit_row
 lower_limit_row_non_negative s mass axis old m v = limit_impulse_non_negative _ _ _ _
 
-pub upper_limit_row_non_negative : (s : SoftBias) (mass : Float) (axis : Vec3) (old : Float) (m : InvMasses) (v : Velocities) → NonNegative
+pub upper_limit_row_non_negative : (s : SoftBias Float) (mass : Float) (axis : Vec3) (old : Float) (m : InvMasses) (v : Velocities) → NonNegative
     (upper_limit_row s mass axis old m v).impulse
 unfolding upper_limit_row
 upper_limit_row_non_negative s mass axis old m v = limit_impulse_non_negative _ _ _ _

@@ -10,14 +10,14 @@ use Rattle.math_functions.specs.Matrix.{add_mm, mul_mm, negate_mat3, skew}
 use Rattle.solver.specs.declared.Softness.{Softness}
 use Rattle.constraint.specs.declared.velocity.Velocities.{Velocities}
 use Rattle.constraint.specs.declared.velocity.InvMasses.{InvMasses}
-use Rattle.constraint.specs.declared.soft.SoftBias3.{SoftBias3}
+use Rattle.constraint.specs.declared.soft.SoftBias.{SoftBias}
 use Rattle.constraint.specs.declared.point.PointRow.{PointRow}
 use Rattle.constraint.specs.Soft.{soft_bias3, rigid3}
 
 abbrev pub point_result : Vec3 → Velocities → Mark → PointRow
 point_result impulse velocities mark = record { impulse = impulse; velocities = velocities; mark = mark }
 
-unfoldable pub point_bias : Bool → Softness → Vec3 → Vec3 → Vec3 → Vec3 → Vec3 → SoftBias3
+unfoldable pub point_bias : Bool → Softness → Vec3 → Vec3 → Vec3 → Vec3 → Vec3 → SoftBias Vec3
 point_bias is_soft s r_a r_b dc_a dc_b delta_center =
     let separation = add (add (sub dc_b dc_a) (sub r_b r_a)) delta_center in
     cond is_soft (soft_bias3 s separation) rigid3

@@ -3,24 +3,17 @@ ghost use Rattle.std.specs.Prelude.{◌≡◌};
 ghost use Rattle.constraint.specs.Angular as D;
 ghost use Rattle.constraint.specs.Steps as Steps;
 
-use crate::soft::{SoftBias, SoftBias3, limit_impulse, limit_sum, soft_impulse3};
+use crate::soft::{SoftBias, limit_impulse, limit_sum, soft_impulse3};
 use crate::velocity::{InvMasses, Velocities, apply_angular, apply_axial_flipped};
 use math_functions::matrix::mul_mv;
 use math_functions::quat::{get_swing_angle, get_twist_angle};
 use math_functions::types::{Matrix3, Quat, Vec3, nan};
 use math_functions::vector::{add, dot, sub};
 
-// What a row of one dimension leaves: its impulse, and the velocities.
+// What a row leaves: its impulse, a number or a vector, and the velocities.
 #[derive(Clone, Copy)]
-pub struct AxialRow {
-    pub impulse: f32,
-    pub velocities: Velocities,
-}
-
-// What a row of three dimensions leaves.
-#[derive(Clone, Copy)]
-pub struct Row3 {
-    pub impulse: Vec3,
+pub struct Row<V> {
+    pub impulse: V,
     pub velocities: Velocities,
 }
 
@@ -65,7 +58,13 @@ pub fn swing_angle_if(worked: bool, rel_q: Quat) -> f32
 
 // The sum of a lower limit's row, whose impulse turns B up about the axis.
 #[tactic(auto, unfolding(crate::specs::Steps::lower_limit_sum))]
-pub fn lower_limit_sum(s: SoftBias, mass: f32, axis: Vec3, old_impulse: f32, v: Velocities) -> f32
+pub fn lower_limit_sum(
+    s: SoftBias<f32>,
+    mass: f32,
+    axis: Vec3,
+    old_impulse: f32,
+    v: Velocities,
+) -> f32
     ensures { result ≡ Steps.lower_limit_sum s mass axis old_impulse v }
 {
     let cdot = dot(sub(v.w_b, v.w_a), axis);
@@ -74,7 +73,13 @@ pub fn lower_limit_sum(s: SoftBias, mass: f32, axis: Vec3, old_impulse: f32, v: 
 
 // The sum of an upper limit's row, or of the cone's: sign flipped on cdot.
 #[tactic(auto, unfolding(crate::specs::Steps::upper_limit_sum))]
-pub fn upper_limit_sum(s: SoftBias, mass: f32, axis: Vec3, old_impulse: f32, v: Velocities) -> f32
+pub fn upper_limit_sum(
+    s: SoftBias<f32>,
+    mass: f32,
+    axis: Vec3,
+    old_impulse: f32,
+    v: Velocities,
+) -> f32
     ensures { result ≡ Steps.upper_limit_sum s mass axis old_impulse v }
 {
     let cdot = dot(sub(v.w_a, v.w_b), axis);
@@ -89,39 +94,35 @@ pub fn upper_row_to(
     axis: Vec3,
     m: InvMasses,
     v: Velocities,
-) -> AxialRow
+) -> Row<f32>
     ensures { result ≡ Steps.upper_row_to impulse old_impulse axis m v }
 {
     let velocities = apply_axial_flipped(m, impulse - old_impulse, axis, v);
-    AxialRow {
+    Row {
         impulse,
         velocities,
     }
 }
 
 // An upper limit or a cone: sign flipped on cdot and on the applied impulse.
-#[tactic(auto, unfolding(crate::specs::Angular::upper_limit_row))]
+#[tactic(auto, unfolding(crate::specs::Angular::upper_limit_row, crate::specs::Steps::upper_row_to))]
 pub fn upper_limit_row(
-    s: SoftBias,
+    s: SoftBias<f32>,
     mass: f32,
     axis: Vec3,
     old_impulse: f32,
     m: InvMasses,
     v: Velocities,
-) -> AxialRow
+) -> Row<f32>
     ensures { result ≡ D.upper_limit_row s mass axis old_impulse m v }
 {
     let cdot = dot(sub(v.w_a, v.w_b), axis);
     let impulse = limit_impulse(s, mass, cdot, old_impulse);
-    let velocities = apply_axial_flipped(m, impulse - old_impulse, axis, v);
-    AxialRow {
-        impulse,
-        velocities,
-    }
+    upper_row_to(impulse, old_impulse, axis, m, v)
 }
 
 // A pair of limit rows, of the lower limit's impulse and the upper limit's row, which comes second.
-pub fn limit_rows(lower_impulse: f32, upper: AxialRow) -> LimitRows
+pub fn limit_rows(lower_impulse: f32, upper: Row<f32>) -> LimitRows
     ensures { result ≡ D.limit_rows lower_impulse upper.impulse upper.velocities }
 {
     let velocities = upper.velocities;
@@ -135,12 +136,12 @@ pub fn limit_rows(lower_impulse: f32, upper: AxialRow) -> LimitRows
 // The angular row: weld's, and spherical's spring.
 #[tactic(auto, unfolding(crate::specs::Angular::angular_row))]
 pub fn angular_row(
-    s: SoftBias3,
+    s: SoftBias<Vec3>,
     mass: Matrix3,
     old_impulse: Vec3,
     m: InvMasses,
     v: Velocities,
-) -> Row3
+) -> Row<Vec3>
     ensures { result ≡ D.angular_row s mass old_impulse m v }
 {
     let cdot = sub(v.w_b, v.w_a);
@@ -148,7 +149,7 @@ pub fn angular_row(
     let delta_impulse = soft_impulse3(s, b, old_impulse);
     let impulse = add(old_impulse, delta_impulse);
     let velocities = apply_angular(m, delta_impulse, v);
-    Row3 {
+    Row {
         impulse,
         velocities,
     }

@@ -2,7 +2,7 @@
 ghost use Rattle.std.specs.Prelude.{◌≡◌};
 ghost use Rattle.constraint.specs.Point as D;
 
-use crate::soft::{RIGID3, SoftBias3, soft_bias3};
+use crate::soft::{SoftBias, rigid, soft_bias};
 use crate::velocity::Velocities;
 use math_functions::mark::Mark;
 use math_functions::types::{Matrix3, Vec3};
@@ -27,14 +27,14 @@ pub fn point_bias(
     dc_a: Vec3,
     dc_b: Vec3,
     delta_center: Vec3,
-) -> SoftBias3
+) -> SoftBias<Vec3>
     ensures { result ≡ D.point_bias is_soft softness r_a r_b dc_a dc_b delta_center }
 {
     if is_soft {
         let separation = add(add(sub(dc_b, dc_a), sub(r_b, r_a)), delta_center);
-        soft_bias3(softness, separation)
+        soft_bias(softness, separation)
     } else {
-        RIGID3
+        rigid()
     }
 }
 

@@ -33,7 +33,7 @@ unfolding Option-elim Ieee.of_bits Ieee.neg Ieee.add Ieee.sub Ieee.mul Ieee.div 
     Matrix.skew Transform.sub_pos Solver.make_soft Body.is_dynamic Body.store_velocities
     Velocity.velocities_of Velocity.inv_masses_of Velocity.apply_axial Velocity.apply_axial_flipped Velocity.apply_angular Velocity.apply_point
     Velocity.apply_warm
-    Soft.soft_bias Soft.soft_bias2 Soft.soft_bias3 Soft.limit_bias Soft.soft_impulse Soft.soft_impulse3 Soft.soft_impulse3_products Soft.limit_sum
+    Soft.soft_bias_of Soft.limit_bias Soft.soft_impulse Soft.soft_impulse3 Soft.soft_impulse3_products Soft.limit_sum
     Soft.limit_impulse
     Rotation.same_polarity Rotation.relative_rotation Rotation.flipped_relative_rotation
     Angular.is_worked Angular.twist_angle_if Angular.swing_angle_if Angular.lower_limit_row Angular.upper_limit_row Angular.angular_row Angular.twist_limit_rows

@@ -32,8 +32,8 @@ use Rattle.records.specs.Revolute.{Written, Made, built, settings_of, with_writt
 use Rattle.constraint.specs.declared.velocity.Velocities.{Velocities}
 use Rattle.constraint.specs.declared.velocity.InvMasses.{InvMasses}
 use Rattle.constraint.specs.declared.rotation.RelativeRotation.{RelativeRotation}
-use Rattle.constraint.specs.declared.soft.SoftBias2.{SoftBias2}
-use Rattle.constraint.specs.declared.angular.AxialRow.{AxialRow}
+use Rattle.constraint.specs.declared.soft.SoftBias.{SoftBias}
+use Rattle.constraint.specs.declared.angular.Row.{Row}
 use Rattle.constraint.specs.declared.angular.LimitRows.{LimitRows}
 use Rattle.constraint.specs.declared.point.PointRow.{PointRow}
 use Rattle.constraint.specs.declared.answer.Report.{Report}
@@ -43,7 +43,7 @@ use Rattle.constraint.specs.declared.answer.Solved.{Solved}
 use Rattle.constraint.specs.Velocity.{velocities_of, inv_masses_of, apply_axial, apply_angular, apply_point, apply_warm}
 use Rattle.constraint.specs.Soft.{soft_bias, soft_bias2, soft_impulse, soft_impulse3_products, rigid2}
 use Rattle.constraint.specs.Rotation.{flipped_relative_rotation}
-use Rattle.constraint.specs.Angular.{axial_row, is_worked, twist_angle_if, TwistLimit, twist_limit_rows}
+use Rattle.constraint.specs.Angular.{row, is_worked, twist_angle_if, TwistLimit, twist_limit_rows}
 use Rattle.constraint.specs.Point.{point_result, point_bias, point_mass, point_cdot}
 use Rattle.constraint.specs.Prepare.{prepare_base, prepare_frame, awake_index, axial_mass}
 use Rattle.constraint.specs.Answer.{prepared, not_prepared, warm_started, not_warm_started, report, solved, not_solved}
@@ -144,12 +144,12 @@ warm_start_revolute base j state_a state_b =
 -- Each takes the fields that it reads. The first parameter of a row that can be skipped says whether it is worked; if not, it leaves all as it was.
 
 -- document 01's spring: of one dimension, about the rotation axis (spherical's is of three)
-unfoldable pub spring_row : Bool → Quat → Float → Softness → Float → Vec3 → Float → InvMasses → Velocities → AxialRow
+unfoldable pub spring_row : Bool → Quat → Float → Softness → Float → Vec3 → Float → InvMasses → Velocities → Row Float
 spring_row worked rel_q target_angle softness mass axis old_impulse m v =
     let c = get_twist_angle rel_q ⊖ target_angle in
     let cdot = dot (sub v.w_b v.w_a) axis in
     let delta_impulse = soft_impulse (soft_bias softness c) mass cdot old_impulse in
-    cond (not worked) (axial_row old_impulse v) (axial_row (old_impulse ⊕ delta_impulse) (apply_axial m delta_impulse axis v))
+    cond (not worked) (row old_impulse v) (row (old_impulse ⊕ delta_impulse) (apply_axial m delta_impulse axis v))
 
 -- the motor's impulse before it is clamped
 unfoldable pub motor_sum : Float → Float → Vec3 → Float → Velocities → Float
@@ -158,14 +158,14 @@ motor_sum motor_speed mass axis old_impulse v =
     old_impulse ⊕ neg mass ⊗ cdot
 
 -- document 01's motor: the impulse is clamped by its two signs (spherical's by its length)
-unfoldable pub motor_row : Bool → Float → Float → Float → Float → Vec3 → Float → InvMasses → Velocities → AxialRow
+unfoldable pub motor_row : Bool → Float → Float → Float → Float → Vec3 → Float → InvMasses → Velocities → Row Float
 motor_row worked motor_speed max_motor_torque h mass axis old_impulse m v =
     let max_impulse = max_motor_torque ⊗ h in
     let new_impulse = clamp_float (motor_sum motor_speed mass axis old_impulse v) (neg max_impulse) max_impulse in
-    cond (not worked) (axial_row old_impulse v) (axial_row new_impulse (apply_axial m (new_impulse ⊖ old_impulse) axis v))
+    cond (not worked) (row old_impulse v) (row new_impulse (apply_axial m (new_impulse ⊖ old_impulse) axis v))
 
 -- soft only where the call has bias
-unfoldable pub perp_bias : Bool → Softness → Quat → SoftBias2
+unfoldable pub perp_bias : Bool → Softness → Quat → SoftBias Vec2
 perp_bias use_bias softness rel_q = cond use_bias (soft_bias2 softness (vec2 rel_q.v.x rel_q.v.y)) rigid2
 
 -- the 2-by-2 matrix that is solved
@@ -177,7 +177,7 @@ perp_mass inv_inertia_sum axis_x axis_y =
     mat2 (vec2 kxx kxy) (vec2 kxy kyy)
 
 -- as in the point row, two products are subtracted
-unfoldable pub soft_impulse2_products : SoftBias2 → Vec2 → Vec2 → Vec2
+unfoldable pub soft_impulse2_products : SoftBias Vec2 → Vec2 → Vec2 → Vec2
 soft_impulse2_products s b old_impulse = sub2 (mul_sv2 (neg s.mass_scale) b) (mul_sv2 s.impulse_scale old_impulse)
 
 abbrev pub perp_result : Vec2 → Vec3 → Vec3 → Velocities → Mark → PerpRow
@@ -185,7 +185,7 @@ perp_result impulse axis_x axis_y velocities mark =
     record { perp_impulse = impulse; perp_axis_x = axis_x; perp_axis_y = axis_y; velocities = velocities; mark = mark }
 
 -- the 2-by-2 solve, once the two axes are known, and its mark
-unfoldable pub collinear_row : SoftBias2 → Vec3 → Vec3 → Vec2 → InvMasses → Velocities → PerpRow
+unfoldable pub collinear_row : SoftBias Vec2 → Vec3 → Vec3 → Vec2 → InvMasses → Velocities → PerpRow
 collinear_row s axis_x axis_y old_impulse m v =
     let k = perp_mass (add_mm m.i_a m.i_b) axis_x axis_y in
     let w_rel = sub v.w_b v.w_a in
@@ -221,12 +221,12 @@ joint_rotation j state_a state_b = flipped_relative_rotation state_a.delta_rotat
 
 -- The rows at the fields of the joint and the states. All but the point row are skipped when rotation is fixed.
 
-unfoldable pub solve_spring : Bool → RevoluteJoint → Quat → InvMasses → Velocities → AxialRow
+unfoldable pub solve_spring : Bool → RevoluteJoint → Quat → InvMasses → Velocities → Row Float
 solve_spring fixed_rotation j rel_q m v =
     spring_row (is_worked j.enable_spring fixed_rotation) rel_q j.target_angle j.spring_softness j.axial_mass j.rotation_axis_z
     j.spring_impulse m v
 
-unfoldable pub solve_motor : Bool → RevoluteJoint → Float → InvMasses → Velocities → AxialRow
+unfoldable pub solve_motor : Bool → RevoluteJoint → Float → InvMasses → Velocities → Row Float
 solve_motor fixed_rotation j h m v =
     motor_row (is_worked j.enable_motor fixed_rotation) j.motor_speed j.max_motor_torque h j.axial_mass j.rotation_axis_z
     j.motor_impulse m v

@@ -5,12 +5,10 @@ ghost use Rattle.revolute.specs.Revolute as D;
 
 use crate::prepare::perp_axis;
 use crate::warm_start::perp_angular_impulse;
-use constraint::angular::AxialRow;
+use constraint::angular::Row;
 use constraint::point::{PointRow, add_mass, point_bias, point_cdot};
 use constraint::rotation::RelativeRotation;
-use constraint::soft::{
-    RIGID2, SoftBias2, soft_bias, soft_bias2, soft_impulse, soft_impulse3_products,
-};
+use constraint::soft::{SoftBias, rigid, soft_bias, soft_impulse, soft_impulse3_products};
 use constraint::velocity::{InvMasses, Velocities, apply_angular, apply_axial, apply_point};
 use math_functions::internal::{add2, mul_sv2, sub2};
 use math_functions::mark::Mark;
@@ -44,11 +42,11 @@ pub fn spring_row(
     old_impulse: f32,
     m: InvMasses,
     v: Velocities,
-) -> AxialRow
+) -> Row<f32>
     ensures { result ≡ D.spring_row worked rel_q target_angle softness mass axis old_impulse m v }
 {
     if !worked {
-        return AxialRow {
+        return Row {
             impulse: old_impulse,
             velocities: v,
         };
@@ -59,7 +57,7 @@ pub fn spring_row(
     let cdot = dot(sub(v.w_b, v.w_a), axis);
     let delta_impulse = soft_impulse(s, mass, cdot, old_impulse);
     let velocities = apply_axial(m, delta_impulse, axis, v);
-    AxialRow {
+    Row {
         impulse: old_impulse + delta_impulse,
         velocities,
     }
@@ -87,11 +85,11 @@ pub fn motor_row(
     old_impulse: f32,
     m: InvMasses,
     v: Velocities,
-) -> AxialRow
+) -> Row<f32>
     ensures { result ≡ D.motor_row worked motor_speed max_motor_torque h mass axis old_impulse m v }
 {
     if !worked {
-        return AxialRow {
+        return Row {
             impulse: old_impulse,
             velocities: v,
         };
@@ -100,7 +98,7 @@ pub fn motor_row(
     let max_impulse = max_motor_torque * h;
     let impulse = clamp_float(sum, -max_impulse, max_impulse);
     let velocities = apply_axial(m, impulse - old_impulse, axis, v);
-    AxialRow {
+    Row {
         impulse,
         velocities,
     }
@@ -108,7 +106,7 @@ pub fn motor_row(
 
 // The bias of the perpendicular row.
 #[tactic(auto, unfolding(crate::specs::Revolute::perp_bias))]
-fn perp_bias(use_bias: bool, softness: Softness, rel_q: Quat) -> SoftBias2
+fn perp_bias(use_bias: bool, softness: Softness, rel_q: Quat) -> SoftBias<Vec2>
     ensures { result ≡ D.perp_bias use_bias softness rel_q }
 {
     if use_bias {
@@ -116,9 +114,9 @@ fn perp_bias(use_bias: bool, softness: Softness, rel_q: Quat) -> SoftBias2
             x: rel_q.v.x,
             y: rel_q.v.y,
         };
-        soft_bias2(softness, c)
+        soft_bias(softness, c)
     } else {
-        RIGID2
+        rigid()
     }
 }
 
@@ -139,7 +137,7 @@ fn perp_mass(inv_inertia_sum: Matrix3, axis_x: Vec3, axis_y: Vec3) -> Mat2
 
 // The impulse of a soft row of two dimensions, where b is what the row's mass made of the error.
 #[tactic(auto, unfolding(crate::specs::Revolute::soft_impulse2_products))]
-fn soft_impulse2_products(s: SoftBias2, b: Vec2, old_impulse: Vec2) -> Vec2
+fn soft_impulse2_products(s: SoftBias<Vec2>, b: Vec2, old_impulse: Vec2) -> Vec2
     ensures { result ≡ D.soft_impulse2_products s b old_impulse }
 {
     sub2(
@@ -151,7 +149,7 @@ fn soft_impulse2_products(s: SoftBias2, b: Vec2, old_impulse: Vec2) -> Vec2
 // Collinearity constraint, once its two axes are known.
 #[tactic(auto, unfolding(crate::specs::Revolute::collinear_row))]
 fn collinear_row(
-    s: SoftBias2,
+    s: SoftBias<Vec2>,
     axis_x: Vec3,
     axis_y: Vec3,
     old_impulse: Vec2,

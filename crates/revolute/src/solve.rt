@@ -4,7 +4,7 @@ ghost use Rattle.revolute.specs.Revolute as D;
 
 use crate::rows::{PerpRow, motor_row, perp_row, point_row, spring_row};
 use constraint::angular::{
-    AxialRow, LimitRows, is_worked, limit_rows, lower_limit_sum, twist_angle_if, upper_limit_row,
+    LimitRows, Row, is_worked, limit_rows, lower_limit_sum, twist_angle_if, upper_limit_row,
 };
 use constraint::answer::Report;
 use constraint::point::PointRow;
@@ -45,7 +45,7 @@ fn solve_spring(
     rel_q: Quat,
     m: InvMasses,
     v: Velocities,
-) -> AxialRow
+) -> Row<f32>
     ensures { result ≡ D.solve_spring fixed_rotation joint rel_q m v }
 {
     spring_row(
@@ -69,7 +69,7 @@ fn solve_motor(
     h: f32,
     m: InvMasses,
     v: Velocities,
-) -> AxialRow
+) -> Row<f32>
     ensures { result ≡ D.solve_motor fixed_rotation joint h m v }
 {
     motor_row(

@@ -28,10 +28,9 @@ use Rattle.records.specs.Spherical.{Made, built, written_of, settings_of, with_w
 use Rattle.constraint.specs.declared.velocity.Velocities.{Velocities}
 use Rattle.constraint.specs.declared.velocity.InvMasses.{InvMasses}
 use Rattle.constraint.specs.declared.rotation.RelativeRotation.{RelativeRotation}
-use Rattle.constraint.specs.declared.soft.SoftBias3.{SoftBias3}
-use Rattle.constraint.specs.declared.angular.AxialRow.{AxialRow}
+use Rattle.constraint.specs.declared.soft.SoftBias.{SoftBias}
+use Rattle.constraint.specs.declared.angular.Row.{Row}
 use Rattle.constraint.specs.declared.angular.LimitRows.{LimitRows}
-use Rattle.constraint.specs.declared.angular.Row3.{Row3}
 use Rattle.constraint.specs.declared.point.PointRow.{PointRow}
 use Rattle.constraint.specs.declared.answer.Report.{Report}
 use Rattle.constraint.specs.declared.answer.Prepared.{Prepared}
@@ -40,7 +39,7 @@ use Rattle.constraint.specs.declared.answer.Solved.{Solved}
 use Rattle.constraint.specs.Velocity.{velocities_of, inv_masses_of, apply_angular, apply_point, apply_warm}
 use Rattle.constraint.specs.Soft.{soft_bias3, limit_bias, soft_impulse3}
 use Rattle.constraint.specs.Rotation.{relative_rotation}
-use Rattle.constraint.specs.Angular.{axial_row, row3, is_worked, twist_angle_if, swing_angle_if, upper_limit_row, angular_row, TwistLimit, twist_limit_rows}
+use Rattle.constraint.specs.Angular.{row, is_worked, twist_angle_if, swing_angle_if, upper_limit_row, angular_row, TwistLimit, twist_limit_rows}
 use Rattle.constraint.specs.Point.{point_result, point_bias, point_mass, point_cdot}
 use Rattle.constraint.specs.Prepare.{prepare_base, awake_index, prepare_frame, axial_mass}
 use Rattle.constraint.specs.Answer.{prepared, not_prepared, warm_started, not_warm_started, report, solved, not_solved}
@@ -147,10 +146,10 @@ warm_start_spherical base j state_a state_b =
 -- Each takes the fields that it reads. The first parameter of a row that can be skipped says whether it is worked; if not, it leaves all as it was.
 
 -- Spring. The error is minus the rotation to the target, turned into the world; the softness is the spring's own, with or without bias.
-unfoldable pub spring_row : Bool → RelativeRotation → Quat → Softness → Matrix3 → Vec3 → InvMasses → Velocities → Row3
+unfoldable pub spring_row : Bool → RelativeRotation → Quat → Softness → Matrix3 → Vec3 → InvMasses → Velocities → Row Vec3
 spring_row worked rotation target_rotation spring_softness rotation_mass old_impulse m v =
     let c = neg (rotate_vector rotation.quat_a (delta_quat_to_rotation rotation.rel_q target_rotation)) in
-    cond (not worked) (row3 old_impulse v) (angular_row (soft_bias3 spring_softness c) rotation_mass old_impulse m v)
+    cond (not worked) (row old_impulse v) (angular_row (soft_bias3 spring_softness c) rotation_mass old_impulse m v)
 
 -- the motor's impulse before it is scaled
 unfoldable pub motor_sum : Vec3 → Matrix3 → Vec3 → Velocities → Vec3
@@ -166,19 +165,19 @@ limit_length impulse max_impulse =
     cond (gt len max_impulse) (mul_sv (max_impulse ⊘ len) impulse) impulse
 
 -- Motor: its impulse is a vector, scaled to the length max_motor_torque × h where it is longer (revolute's is a number, clamped).
-unfoldable pub motor_row : Bool → Vec3 → Float → Float → Matrix3 → Vec3 → InvMasses → Velocities → Row3
+unfoldable pub motor_row : Bool → Vec3 → Float → Float → Matrix3 → Vec3 → InvMasses → Velocities → Row Vec3
 motor_row worked motor_velocity max_motor_torque h rotation_mass old_impulse m v =
     let impulse = limit_length (motor_sum motor_velocity rotation_mass old_impulse v) (max_motor_torque ⊗ h) in
-    cond (not worked) (row3 old_impulse v) (row3 impulse (apply_angular m (sub impulse old_impulse) v))
+    cond (not worked) (row old_impulse v) (row impulse (apply_angular m (sub impulse old_impulse) v))
 
 -- Cone: an upper limit, about the swing axis. The gap is the cone's angle less the swing angle.
-unfoldable pub cone_row : Bool → Float → Float → Softness → Float → Bool → Float → Vec3 → Float → InvMasses → Velocities → AxialRow
+unfoldable pub cone_row : Bool → Float → Float → Softness → Float → Bool → Float → Vec3 → Float → InvMasses → Velocities → Row Float
 cone_row worked swing_angle cone_angle s inv_h use_bias swing_mass swing_axis old_impulse m v =
     let c = cone_angle ⊖ swing_angle in
-    cond (not worked) (axial_row old_impulse v) (upper_limit_row (limit_bias c s inv_h use_bias) swing_mass swing_axis old_impulse m v)
+    cond (not worked) (row old_impulse v) (upper_limit_row (limit_bias c s inv_h use_bias) swing_mass swing_axis old_impulse m v)
 
 -- Point, with its bias (`point_bias`: softened where the call has bias); worked with fixed rotation too.
-unfoldable pub point_row : SoftBias3 → Vec3 → Vec3 → Vec3 → InvMasses → Velocities → PointRow
+unfoldable pub point_row : SoftBias Vec3 → Vec3 → Vec3 → Vec3 → InvMasses → Velocities → PointRow
 point_row s r_a r_b old_impulse m v =
     let cdot = point_cdot r_a r_b v in
     let k = point_mass m r_a r_b in
@@ -194,12 +193,12 @@ joint_rotation j state_a state_b = relative_rotation state_a.delta_rotation j.fr
 
 -- The rows at the fields of the joint and the states. All but the point row are skipped when rotation is fixed.
 
-unfoldable pub solve_spring : Bool → SphericalJoint → RelativeRotation → InvMasses → Velocities → Row3
+unfoldable pub solve_spring : Bool → SphericalJoint → RelativeRotation → InvMasses → Velocities → Row Vec3
 solve_spring fixed_rotation j rotation m v =
     spring_row (is_worked j.enable_spring fixed_rotation) rotation j.target_rotation j.spring_softness j.rotation_mass
     j.spring_impulse m v
 
-unfoldable pub solve_motor : Bool → SphericalJoint → Float → InvMasses → Velocities → Row3
+unfoldable pub solve_motor : Bool → SphericalJoint → Float → InvMasses → Velocities → Row Vec3
 solve_motor fixed_rotation j h m v =
     motor_row (is_worked j.enable_motor fixed_rotation) j.motor_velocity j.max_motor_torque h j.rotation_mass j.motor_impulse m v
 
@@ -220,13 +219,13 @@ unfoldable pub solve_limits : Bool → Softness → SphericalJoint → Float →
 solve_limits fixed_rotation softness j angle inv_h use_bias m v =
     twist_limit_rows (is_worked j.enable_twist_limit fixed_rotation) (twist_limit j angle) softness inv_h use_bias m v
 
-unfoldable pub solve_cone : Bool → Softness → SphericalJoint → Float → Float → Bool → InvMasses → Velocities → AxialRow
+unfoldable pub solve_cone : Bool → Softness → SphericalJoint → Float → Float → Bool → InvMasses → Velocities → Row Float
 solve_cone fixed_rotation softness j swing_angle inv_h use_bias m v =
     cone_row (is_worked j.enable_cone_limit fixed_rotation) swing_angle j.cone_angle softness inv_h use_bias j.swing_mass j.swing_axis
     j.swing_impulse m v
 
 -- the point row's bias, at the two anchors
-unfoldable pub solve_bias : Softness → SphericalJoint → Vec3 → Vec3 → BodyState → BodyState → Bool → SoftBias3
+unfoldable pub solve_bias : Softness → SphericalJoint → Vec3 → Vec3 → BodyState → BodyState → Bool → SoftBias Vec3
 solve_bias softness j r_a r_b state_a state_b use_bias =
     point_bias use_bias softness r_a r_b state_a.delta_position state_b.delta_position j.delta_center
 

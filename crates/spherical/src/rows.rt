@@ -4,10 +4,10 @@ ghost use Rattle.std.specs.Prelude.{◌≡◌};
 ghost use Rattle.spherical.specs.Spherical as D;
 ghost use Rattle.spherical.specs.Steps as Steps;
 
-use constraint::angular::{AxialRow, Row3, angular_row, upper_limit_sum, upper_row_to};
+use constraint::angular::{Row, angular_row, upper_limit_sum, upper_row_to};
 use constraint::point::{PointRow, add_mass, point_cdot};
 use constraint::rotation::RelativeRotation;
-use constraint::soft::{SoftBias3, limit_bias, soft_bias3, soft_impulse3};
+use constraint::soft::{SoftBias, limit_bias, soft_bias, soft_impulse3};
 use constraint::velocity::{InvMasses, Velocities, apply_angular, apply_point};
 use math_functions::matrix::{add_mm, mul_mm, mul_mv, negate_mat3, skew, solve3};
 use math_functions::quat::{delta_quat_to_rotation, rotate_vector};
@@ -26,11 +26,11 @@ pub fn spring_row(
     old_impulse: Vec3,
     m: InvMasses,
     v: Velocities,
-) -> Row3
+) -> Row<Vec3>
     ensures { result ≡ D.spring_row worked rotation target_rotation softness mass old_impulse m v }
 {
     if !worked {
-        return Row3 {
+        return Row {
             impulse: old_impulse,
             velocities: v,
         };
@@ -38,7 +38,7 @@ pub fn spring_row(
     // Rotation constraint error
     let delta_rotation = delta_quat_to_rotation(rotation.rel_q, target_rotation);
     let c = neg(rotate_vector(rotation.quat_a, delta_rotation));
-    angular_row(soft_bias3(softness, c), mass, old_impulse, m, v)
+    angular_row(soft_bias(softness, c), mass, old_impulse, m, v)
 }
 
 // The motor's impulse before it is scaled.
@@ -82,11 +82,11 @@ pub fn motor_row(
     old_impulse: Vec3,
     m: InvMasses,
     v: Velocities,
-) -> Row3
+) -> Row<Vec3>
     ensures { result ≡ D.motor_row worked motor_velocity max_motor_torque h mass old_impulse m v }
 {
     if !worked {
-        return Row3 {
+        return Row {
             impulse: old_impulse,
             velocities: v,
         };
@@ -94,7 +94,7 @@ pub fn motor_row(
     let sum = motor_sum(motor_velocity, mass, old_impulse, v);
     let impulse = limit_length(sum, max_motor_torque * h);
     let velocities = apply_angular(m, sub(impulse, old_impulse), v);
-    Row3 {
+    Row {
         impulse,
         velocities,
     }
@@ -114,11 +114,11 @@ pub fn cone_row(
     old_impulse: f32,
     m: InvMasses,
     v: Velocities,
-) -> AxialRow
+) -> Row<f32>
     ensures { result ≡ D.cone_row worked swing_angle cone_angle softness inv_h use_bias mass axis old_impulse m v }
 {
     if !worked {
-        return AxialRow {
+        return Row {
             impulse: old_impulse,
             velocities: v,
         };
@@ -136,7 +136,7 @@ pub fn cone_row(
 // The point row, with its bias s, holds the two anchors together.
 #[tactic(auto, unfolding(crate::specs::Spherical::point_row, constraint::specs::Point::point_mass))]
 pub fn point_row(
-    s: SoftBias3,
+    s: SoftBias<Vec3>,
     r_a: Vec3,
     r_b: Vec3,
     old_impulse: Vec3,

@@ -5,13 +5,13 @@ ghost use Rattle.spherical.specs.Steps as Steps;
 
 use crate::rows::{cone_row, motor_row, point_row, spring_row};
 use constraint::angular::{
-    AxialRow, LimitRows, Row3, is_worked, limit_rows, lower_limit_sum, swing_angle_if,
-    twist_angle_if, upper_limit_sum, upper_row_to,
+    LimitRows, Row, is_worked, limit_rows, lower_limit_sum, swing_angle_if, twist_angle_if,
+    upper_limit_sum, upper_row_to,
 };
 use constraint::answer::Report;
 use constraint::point::point_bias;
 use constraint::rotation::{RelativeRotation, relative_rotation};
-use constraint::soft::{SoftBias3, limit_bias};
+use constraint::soft::{SoftBias, limit_bias};
 use constraint::velocity::{InvMasses, Velocities, apply_axial, inv_masses_of, velocities_of};
 use math_functions::mark::Mark;
 use math_functions::quat::rotate_vector;
@@ -50,7 +50,7 @@ fn solve_spring(
     rotation: RelativeRotation,
     m: InvMasses,
     v: Velocities,
-) -> Row3
+) -> Row<Vec3>
     ensures { result ≡ D.solve_spring fixed_rotation joint rotation m v }
 {
     spring_row(
@@ -73,7 +73,7 @@ fn solve_motor(
     h: f32,
     m: InvMasses,
     v: Velocities,
-) -> Row3
+) -> Row<Vec3>
     ensures { result ≡ D.solve_motor fixed_rotation joint h m v }
 {
     motor_row(
@@ -160,7 +160,7 @@ fn solve_cone(
     use_bias: bool,
     m: InvMasses,
     v: Velocities,
-) -> AxialRow
+) -> Row<f32>
     ensures { result ≡ D.solve_cone fixed_rotation softness joint swing_angle inv_h use_bias m v }
 {
     cone_row(
@@ -188,7 +188,7 @@ fn solve_bias(
     state_a: BodyState,
     state_b: BodyState,
     use_bias: bool,
-) -> SoftBias3
+) -> SoftBias<Vec3>
     ensures { result ≡ D.solve_bias softness joint r_a r_b state_a state_b use_bias }
 {
     point_bias(

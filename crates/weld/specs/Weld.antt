@@ -24,9 +24,9 @@ use Rattle.records.specs.Weld.{built, written_of, settings_of, with_written}
 use Rattle.records.specs.Joint.{as_weld, no_angles, joint_sim, after_solve}
 use Rattle.constraint.specs.declared.velocity.Velocities.{Velocities}
 use Rattle.constraint.specs.declared.velocity.InvMasses.{InvMasses}
-use Rattle.constraint.specs.declared.soft.SoftBias3.{SoftBias3}
+use Rattle.constraint.specs.declared.soft.SoftBias.{SoftBias}
 use Rattle.constraint.specs.declared.rotation.RelativeRotation.{RelativeRotation}
-use Rattle.constraint.specs.declared.angular.Row3.{Row3}
+use Rattle.constraint.specs.declared.angular.Row.{Row}
 use Rattle.constraint.specs.declared.point.PointRow.{PointRow}
 use Rattle.constraint.specs.declared.answer.Report.{Report}
 use Rattle.constraint.specs.declared.answer.Prepared.{Prepared}
@@ -35,7 +35,7 @@ use Rattle.constraint.specs.declared.answer.Solved.{Solved}
 use Rattle.constraint.specs.Velocity.{velocities_of, inv_masses_of, apply_point, apply_warm}
 use Rattle.constraint.specs.Soft.{soft_bias3, rigid3, soft_impulse3}
 use Rattle.constraint.specs.Rotation.{flipped_relative_rotation}
-use Rattle.constraint.specs.Angular.{row3, angular_row}
+use Rattle.constraint.specs.Angular.{row, angular_row}
 use Rattle.constraint.specs.Point.{point_result, point_bias, point_cdot_grouped, point_mass}
 use Rattle.constraint.specs.Prepare.{prepare_base, awake_index, prepare_frame}
 use Rattle.constraint.specs.Answer.{prepared, not_prepared, warm_started, not_warm_started, report, solved, not_solved}
@@ -94,19 +94,19 @@ unfoldable pub is_soft : Bool → Float → Bool
 is_soft use_bias hertz = use_bias || gt hertz zero
 
 -- the error is minus the rotation that takes rel_q to the identity, turned into the world by quat_a
-unfoldable pub angular_bias : Bool → Softness → RelativeRotation → SoftBias3
+unfoldable pub angular_bias : Bool → Softness → RelativeRotation → SoftBias Vec3
 angular_bias soft s rotation =
     let delta_rotation = delta_quat_to_rotation rotation.rel_q quat_identity in
     let c = neg (rotate_vector rotation.quat_a delta_rotation) in
     cond soft (soft_bias3 s c) rigid3
 
 -- document 01's angular row, skipped when rotation is fixed
-unfoldable pub weld_angular_row : Bool → RelativeRotation → Bool → Float → Softness → Matrix3 → Vec3 → InvMasses → Velocities → Row3
+unfoldable pub weld_angular_row : Bool → RelativeRotation → Bool → Float → Softness → Matrix3 → Vec3 → InvMasses → Velocities → Row Vec3
 weld_angular_row worked rotation use_bias hertz s mass old_impulse m v =
-    cond (not worked) (row3 old_impulse v) (angular_row (angular_bias (is_soft use_bias hertz) s rotation) mass old_impulse m v)
+    cond (not worked) (row old_impulse v) (angular_row (angular_bias (is_soft use_bias hertz) s rotation) mass old_impulse m v)
 
 -- document 01's point row, with its bias; worked also when rotation is fixed. The velocity error is grouped, unlike revolute's and spherical's
-unfoldable pub point_row : SoftBias3 → Vec3 → Vec3 → Vec3 → InvMasses → Velocities → PointRow
+unfoldable pub point_row : SoftBias Vec3 → Vec3 → Vec3 → Vec3 → InvMasses → Velocities → PointRow
 point_row s r_a r_b old_impulse m v =
     let cdot = point_cdot_grouped r_a r_b v in
     let k = point_mass m r_a r_b in
@@ -122,12 +122,12 @@ joint_rotation j state_a state_b = flipped_relative_rotation state_a.delta_rotat
 
 -- The rows at the fields of the joint and the states. The angular row is skipped when rotation is fixed.
 
-unfoldable pub solve_angular : Bool → WeldJoint → RelativeRotation → Bool → InvMasses → Velocities → Row3
+unfoldable pub solve_angular : Bool → WeldJoint → RelativeRotation → Bool → InvMasses → Velocities → Row Vec3
 solve_angular fixed_rotation j rotation use_bias m v =
     weld_angular_row (not fixed_rotation) rotation use_bias j.angular_hertz j.angular_spring j.angular_mass j.angular_impulse m v
 
 -- the point row's bias, where r_a and r_b reach from the centres to the anchors
-unfoldable pub solve_bias : WeldJoint → Vec3 → Vec3 → BodyState → BodyState → Bool → SoftBias3
+unfoldable pub solve_bias : WeldJoint → Vec3 → Vec3 → BodyState → BodyState → Bool → SoftBias Vec3
 solve_bias j r_a r_b state_a state_b use_bias =
     let soft = is_soft use_bias j.linear_hertz in
     point_bias soft j.linear_spring r_a r_b state_a.delta_position state_b.delta_position j.delta_center

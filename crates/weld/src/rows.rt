@@ -2,10 +2,10 @@
 ghost use Rattle.std.specs.Prelude.{◌≡◌};
 ghost use Rattle.weld.specs.Weld as D;
 
-use constraint::angular::{Row3, angular_row};
+use constraint::angular::{Row, angular_row};
 use constraint::point::{PointRow, add_mass, point_cdot_grouped};
 use constraint::rotation::RelativeRotation;
-use constraint::soft::{RIGID3, SoftBias3, soft_bias3, soft_impulse3};
+use constraint::soft::{SoftBias, rigid, soft_bias, soft_impulse3};
 use constraint::velocity::{InvMasses, Velocities, apply_point};
 use math_functions::matrix::{add_mm, mul_mm, negate_mat3, skew, solve3};
 use math_functions::quat::{delta_quat_to_rotation, rotate_vector};
@@ -23,16 +23,16 @@ pub fn is_soft(use_bias: bool, hertz: f32) -> bool
 
 // The bias of the angular row.
 #[tactic(auto, unfolding(crate::specs::Weld::angular_bias))]
-fn angular_bias(soft: bool, softness: Softness, rotation: RelativeRotation) -> SoftBias3
+fn angular_bias(soft: bool, softness: Softness, rotation: RelativeRotation) -> SoftBias<Vec3>
     ensures { result ≡ D.angular_bias soft softness rotation }
 {
     if soft {
         let target_quat = QUAT_IDENTITY;
         let delta_rotation = delta_quat_to_rotation(rotation.rel_q, target_quat);
         let c = neg(rotate_vector(rotation.quat_a, delta_rotation));
-        soft_bias3(softness, c)
+        soft_bias(softness, c)
     } else {
-        RIGID3
+        rigid()
     }
 }
 
@@ -48,11 +48,11 @@ pub fn weld_angular_row(
     old_impulse: Vec3,
     m: InvMasses,
     v: Velocities,
-) -> Row3
+) -> Row<Vec3>
     ensures { result ≡ D.weld_angular_row worked rotation use_bias hertz softness mass old_impulse m v }
 {
     if !worked {
-        return Row3 {
+        return Row {
             impulse: old_impulse,
             velocities: v,
         };
@@ -64,7 +64,7 @@ pub fn weld_angular_row(
 // The linear constraint with its bias s, where r_a and r_b reach from the centres to the anchors.
 #[tactic(auto, unfolding(crate::specs::Weld::point_row, constraint::specs::Point::point_mass))]
 pub fn point_row(
-    s: SoftBias3,
+    s: SoftBias<Vec3>,
     r_a: Vec3,
     r_b: Vec3,
     old_impulse: Vec3,

@@ -3,11 +3,11 @@ ghost use Rattle.std.specs.Prelude.{◌≡◌};
 ghost use Rattle.weld.specs.Weld as D;
 
 use crate::rows::{is_soft, point_row, weld_angular_row};
-use constraint::angular::Row3;
+use constraint::angular::Row;
 use constraint::answer::Report;
 use constraint::point::point_bias;
 use constraint::rotation::{RelativeRotation, same_polarity};
-use constraint::soft::SoftBias3;
+use constraint::soft::SoftBias;
 use constraint::velocity::{InvMasses, Velocities, inv_masses_of, velocities_of};
 use math_functions::mark::Mark;
 use math_functions::quat::{inv_mul_quat, mul_quat, rotate_vector};
@@ -43,7 +43,7 @@ fn solve_angular(
     use_bias: bool,
     m: InvMasses,
     v: Velocities,
-) -> Row3
+) -> Row<Vec3>
     ensures { result ≡ D.solve_angular fixed_rotation joint rotation use_bias m v }
 {
     weld_angular_row(
@@ -68,7 +68,7 @@ fn solve_bias(
     state_a: BodyState,
     state_b: BodyState,
     use_bias: bool,
-) -> SoftBias3
+) -> SoftBias<Vec3>
     ensures { result ≡ D.solve_bias joint r_a r_b state_a state_b use_bias }
 {
     point_bias(
