@@ -16,8 +16,9 @@ use Rattle.records.specs.Joint.{is_some}
 use Rattle.constraint.specs.declared.velocity.Velocities.{Velocities}
 use Rattle.constraint.specs.declared.velocity.InvMasses.{InvMasses}
 use Rattle.constraint.specs.declared.soft.SoftBias.{SoftBias}
+use Rattle.constraint.specs.declared.angular.TwistLimit.{TwistLimit}
 use Rattle.constraint.specs.Soft.{limit_impulse}
-use Rattle.constraint.specs.Angular.{is_worked, lower_limit_row, upper_limit_row, TwistLimit, twist_limit_rows}
+use Rattle.constraint.specs.Angular.{is_worked, lower_limit_row, upper_limit_row, twist_limit_rows}
 use Rattle.constraint.specs.Claims.{NonNegative, AtMostOne, BothOfKind}
 
 pub max_float_non_negative : (x : Float) → NonNegative (max_float x zero)

@@ -14,11 +14,17 @@ use Rattle.constraint.specs.declared.velocity.InvMasses.{InvMasses}
 use Rattle.constraint.specs.declared.soft.SoftBias.{SoftBias}
 use Rattle.constraint.specs.declared.angular.Row.{Row}
 use Rattle.constraint.specs.declared.angular.LimitRows.{LimitRows}
+use Rattle.constraint.specs.declared.angular.RowAxis.{RowAxis}
+use Rattle.constraint.specs.declared.angular.TwistLimit.{TwistLimit}
 use Rattle.constraint.specs.Velocity.{apply_axial, apply_axial_flipped, apply_angular}
 use Rattle.constraint.specs.Soft.{limit_bias, limit_impulse, soft_impulse3}
 
 abbrev pub row : {V : Type 0} → V → Velocities → Row V
 row impulse velocities = record { impulse = impulse; velocities = velocities }
+
+-- the axis that a row works about, and the effective mass about it
+abbrev pub row_axis : Vec3 → Float → RowAxis
+row_axis axis mass = record { axis = axis; mass = mass }
 
 abbrev pub limit_rows : Float → Float → Velocities → LimitRows
 limit_rows lower_impulse upper_impulse velocities = record { lower_impulse = lower_impulse; upper_impulse = upper_impulse; velocities = velocities }
@@ -56,22 +62,11 @@ angular_row s mass old_impulse m v =
     let impulse = soft_impulse3 s (mul_mv mass (add cdot s.bias)) old_impulse in
     row (add old_impulse impulse) (apply_angular m impulse v)
 
--- a limit about an axis, with a lower and an upper angle: what its two rows are worked with. `angle` is the twist angle at the solve's start, or
--- NaN where the rows are not worked
-pub record TwistLimit : Type 0 where
-  pub angle : Float
-  pub lower_angle : Float
-  pub upper_angle : Float
-  pub mass : Float
-  pub axis : Vec3
-  pub lower_impulse : Float
-  pub upper_impulse : Float
-
 -- revolute's limit, spherical's twist limit: the lower row, then the upper row, both at one angle
 unfoldable pub twist_limit_rows : Bool → TwistLimit → Softness → Float → Bool → InvMasses → Velocities → LimitRows
 twist_limit_rows worked l s inv_h use_bias m v =
     let lower_bias = limit_bias (l.angle ⊖ l.lower_angle) s inv_h use_bias in
-    let lower = lower_limit_row lower_bias l.mass l.axis l.lower_impulse m v in
+    let lower = lower_limit_row lower_bias l.about.mass l.about.axis l.lower_impulse m v in
     let upper_bias = limit_bias (l.upper_angle ⊖ l.angle) s inv_h use_bias in
-    let upper = upper_limit_row upper_bias l.mass l.axis l.upper_impulse m lower.velocities in
+    let upper = upper_limit_row upper_bias l.about.mass l.about.axis l.upper_impulse m lower.velocities in
     cond (not worked) (limit_rows l.lower_impulse l.upper_impulse v) (limit_rows lower.impulse upper.impulse upper.velocities)

@@ -6,7 +6,7 @@ use Rattle.math_functions.specs.Float.{◌⊕◌, ◌⊖◌, ◌⊗◌, neg, gt,
 use Rattle.math_functions.specs.Types.{vec2_zero, vec3_zero}
 use Rattle.math_functions.specs.Scalar.{max_float}
 use Rattle.math_functions.specs.Vector.{sub, mul_sub, mul_sv}
-use Rattle.math_functions.specs.Internal.{mul_sv2}
+use Rattle.math_functions.specs.Internal.{sub2, mul_sv2}
 use Rattle.solver.specs.declared.Softness.{Softness}
 use Rattle.constraint.specs.declared.soft.SoftBias.{SoftBias}
 
@@ -30,9 +30,12 @@ rigid3 = rigid_of vec3_zero
 unfoldable pub soft_bias_of : {V : Type 0} → (Float → V → V) → Softness → V → SoftBias V
 soft_bias_of times s c = scaled (times s.bias_rate c) s.mass_scale s.impulse_scale
 
--- of a number
+-- of numbers
 abbrev pub times1 : Float → Float → Float
 times1 s c = s ⊗ c
+
+abbrev pub minus1 : Float → Float → Float
+minus1 a b = a ⊖ b
 
 abbrev pub soft_bias : Softness → Float → SoftBias Float
 soft_bias s c = soft_bias_of times1 s c
@@ -61,6 +64,12 @@ limit_impulse s mass cdot old_impulse = max_float (limit_sum s mass cdot old_imp
 unfoldable pub soft_impulse3 : SoftBias Vec3 → Vec3 → Vec3 → Vec3
 soft_impulse3 s b old_impulse = mul_sub (mul_sv (neg s.mass_scale) b) s.impulse_scale old_impulse
 
--- revolute's point row subtracts two products where the others use mul_sub: other text, the same operations
-unfoldable pub soft_impulse3_products : SoftBias Vec3 → Vec3 → Vec3 → Vec3
-soft_impulse3_products s b old_impulse = sub (mul_sv (neg s.mass_scale) b) (mul_sv s.impulse_scale old_impulse)
+-- revolute's rows subtract two products where the others use mul_sub: other text, the same operations. `times` multiplies by a number
+unfoldable pub soft_impulse_of : {V : Type 0} → (Float → V → V) → (V → V → V) → SoftBias V → V → V → V
+soft_impulse_of times minus s b old_impulse = minus (times (neg s.mass_scale) b) (times s.impulse_scale old_impulse)
+
+abbrev pub soft_impulse2_products : SoftBias Vec2 → Vec2 → Vec2 → Vec2
+soft_impulse2_products s b old_impulse = soft_impulse_of mul_sv2 sub2 s b old_impulse
+
+abbrev pub soft_impulse3_products : SoftBias Vec3 → Vec3 → Vec3 → Vec3
+soft_impulse3_products s b old_impulse = soft_impulse_of mul_sv sub s b old_impulse

@@ -14,7 +14,7 @@ pub struct RelativeRotation {
 // q, or -q where q lies on the other side from p, as revolute and weld joints take the second
 // quaternion. This keeps the rotation angle in [-pi, pi].
 #[tactic(auto, unfolding(crate::specs::Rotation::same_polarity))]
-pub fn same_polarity(p: Quat, q: Quat) -> Quat
+fn same_polarity(p: Quat, q: Quat) -> Quat
     ensures { result ≡ D.same_polarity p q }
 {
     if dot_quat(p, q) < 0.0 {
@@ -36,6 +36,23 @@ pub fn relative_rotation(
 {
     let quat_a = mul_quat(delta_a, frame_a);
     let quat_b = mul_quat(delta_b, frame_b);
+    let rel_q = inv_mul_quat(quat_a, quat_b);
+    RelativeRotation { quat_a, rel_q }
+}
+
+// Revolute and weld joints, in a solve, take it on the side of the first.
+#[inline(always)]
+#[tactic(auto, unfolding(crate::specs::Rotation::flipped_relative_rotation))]
+pub fn flipped_relative_rotation(
+    delta_a: Quat,
+    frame_a: Quat,
+    delta_b: Quat,
+    frame_b: Quat,
+) -> RelativeRotation
+    ensures { result ≡ D.flipped_relative_rotation delta_a frame_a delta_b frame_b }
+{
+    let quat_a = mul_quat(delta_a, frame_a);
+    let quat_b = same_polarity(quat_a, mul_quat(delta_b, frame_b));
     let rel_q = inv_mul_quat(quat_a, quat_b);
     RelativeRotation { quat_a, rel_q }
 }

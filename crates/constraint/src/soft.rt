@@ -7,10 +7,9 @@ ghost use Rattle.math_functions.specs.Internal as Internal;
 ghost use Rattle.math_functions.specs.Vector as Vectors;
 ghost use Rattle.constraint.specs.Soft as D;
 
-use math_functions::internal::mul_sv2;
-use math_functions::scalar::max_float;
+use math_functions::internal::{mul_sv2, sub2};
 use math_functions::types::{VEC2_ZERO, VEC3_ZERO, Vec2, Vec3};
-use math_functions::vector::{mul_sub, mul_sv, sub};
+use math_functions::vector::{mul_sv, sub};
 use solver::Softness;
 
 // What a row of some dimension measures its error in: a number, or a vector of two or three.
@@ -19,18 +18,25 @@ pub trait Scaled: Copy {
 
     ghost times: { Float → Self → Self };
 
+    ghost minus: { Self → Self → Self };
+
     fn zero() -> Self
         ensures { result ≡ zero };
 
     // s times the value
     fn scaled(self, s: f32) -> Self
         ensures { result ≡ times s self };
+
+    fn minus(self, other: Self) -> Self
+        ensures { result ≡ minus self other };
 }
 
 impl Scaled for f32 {
     ghost zero = { Floats.zero };
 
     ghost times = { D.times1 };
+
+    ghost minus = { D.minus1 };
 
     fn zero() -> f32 {
         0.0
@@ -39,12 +45,18 @@ impl Scaled for f32 {
     fn scaled(self, s: f32) -> f32 {
         s * self
     }
+
+    fn minus(self, other: f32) -> f32 {
+        self - other
+    }
 }
 
 impl Scaled for Vec2 {
     ghost zero = { Types.vec2_zero };
 
     ghost times = { Internal.mul_sv2 };
+
+    ghost minus = { Internal.sub2 };
 
     fn zero() -> Vec2 {
         VEC2_ZERO
@@ -53,6 +65,10 @@ impl Scaled for Vec2 {
     fn scaled(self, s: f32) -> Vec2 {
         mul_sv2(s, self)
     }
+
+    fn minus(self, other: Vec2) -> Vec2 {
+        sub2(self, other)
+    }
 }
 
 impl Scaled for Vec3 {
@@ -60,12 +76,18 @@ impl Scaled for Vec3 {
 
     ghost times = { Vectors.mul_sv };
 
+    ghost minus = { Vectors.sub };
+
     fn zero() -> Vec3 {
         VEC3_ZERO
     }
 
     fn scaled(self, s: f32) -> Vec3 {
         mul_sv(s, self)
+    }
+
+    fn minus(self, other: Vec3) -> Vec3 {
+        sub(self, other)
     }
 }
 
@@ -99,20 +121,28 @@ pub fn soft_bias<V: Scaled>(softness: Softness, c: V) -> SoftBias<V>
     }
 }
 
+// What softens a limit's rows: the joint's softness, the step, and whether the call has bias.
+#[derive(Clone, Copy)]
+pub struct LimitSoftness {
+    pub softness: Softness,
+    pub inv_h: f32,
+    pub use_bias: bool,
+}
+
 // The bias of a limit row, where c is the gap. Above zero the bodies may close it within the step.
 #[tactic(auto, unfolding(crate::specs::Soft::limit_bias))]
-pub fn limit_bias(c: f32, softness: Softness, inv_h: f32, use_bias: bool) -> SoftBias<f32>
-    ensures { result ≡ D.limit_bias c softness inv_h use_bias }
+pub fn limit_bias(c: f32, soft: LimitSoftness) -> SoftBias<f32>
+    ensures { result ≡ D.limit_bias c soft.softness soft.inv_h soft.use_bias }
 {
     if c > 0.0 {
         // speculation
         SoftBias {
-            bias: c * inv_h,
+            bias: c * soft.inv_h,
             mass_scale: 1.0,
             impulse_scale: 0.0,
         }
-    } else if use_bias {
-        soft_bias(softness, c)
+    } else if soft.use_bias {
+        soft_bias(soft.softness, c)
     } else {
         rigid()
     }
@@ -135,29 +165,12 @@ pub fn limit_sum(s: SoftBias<f32>, mass: f32, cdot: f32, old_impulse: f32) -> f3
     old_impulse + delta_impulse
 }
 
-// The impulse of a limit after its row: never below zero, and a NaN is dropped.
-#[tactic(auto, unfolding(crate::specs::Soft::limit_impulse))]
-pub fn limit_impulse(s: SoftBias<f32>, mass: f32, cdot: f32, old_impulse: f32) -> f32
-    ensures { result ≡ D.limit_impulse s mass cdot old_impulse }
+// The impulse of a soft row of two or three dimensions, where b is what the row's mass made of the
+// error. (A row of one multiplies by its mass in another order.)
+#[tactic(auto, unfolding(crate::specs::Soft::soft_impulse_of))]
+pub fn soft_impulse_of<V: Scaled>(s: SoftBias<V>, b: V, old_impulse: V) -> V
+    ensures { result ≡ D.soft_impulse_of V.times V.minus s b old_impulse }
 {
-    max_float(limit_sum(s, mass, cdot, old_impulse), 0.0)
-}
-
-// The impulse of a soft row of three dimensions, where b is what the row's mass made of the error.
-#[tactic(auto, unfolding(crate::specs::Soft::soft_impulse3))]
-pub fn soft_impulse3(s: SoftBias<Vec3>, b: Vec3, old_impulse: Vec3) -> Vec3
-    ensures { result ≡ D.soft_impulse3 s b old_impulse }
-{
-    mul_sub(mul_sv(-s.mass_scale, b), s.impulse_scale, old_impulse)
-}
-
-// The same impulse as revolute's point row writes it: the second product is taken by itself.
-#[tactic(auto, unfolding(crate::specs::Soft::soft_impulse3_products))]
-pub fn soft_impulse3_products(s: SoftBias<Vec3>, b: Vec3, old_impulse: Vec3) -> Vec3
-    ensures { result ≡ D.soft_impulse3_products s b old_impulse }
-{
-    sub(
-        mul_sv(-s.mass_scale, b),
-        mul_sv(s.impulse_scale, old_impulse),
-    )
+    b.scaled(-s.mass_scale)
+        .minus(old_impulse.scaled(s.impulse_scale))
 }

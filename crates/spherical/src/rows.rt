@@ -1,15 +1,14 @@
 // The rows of a spherical joint's solve. A row that is not worked leaves its impulse and the
-// velocities as they were.
+// velocities as they were. The twist limit's rows and the point row are those of every kind.
 ghost use Rattle.std.specs.Prelude.{◌≡◌};
 ghost use Rattle.spherical.specs.Spherical as D;
 ghost use Rattle.spherical.specs.Steps as Steps;
 
-use constraint::angular::{Row, angular_row, upper_limit_sum, upper_row_to};
-use constraint::point::{PointRow, add_mass, point_cdot};
+use constraint::angular::{Row, RowAxis, angular_row, upper_limit_sum, upper_row_to};
 use constraint::rotation::RelativeRotation;
-use constraint::soft::{SoftBias, limit_bias, soft_bias, soft_impulse3};
-use constraint::velocity::{InvMasses, Velocities, apply_angular, apply_point};
-use math_functions::matrix::{add_mm, mul_mm, mul_mv, negate_mat3, skew, solve3};
+use constraint::soft::{LimitSoftness, limit_bias, soft_bias};
+use constraint::velocity::{InvMasses, Velocities, apply_angular};
+use math_functions::matrix::mul_mv;
 use math_functions::quat::{delta_quat_to_rotation, rotate_vector};
 use math_functions::types::{Matrix3, Quat, Vec3};
 use math_functions::vector::{add, length, mul_sv, neg, sub};
@@ -106,16 +105,13 @@ pub fn cone_row(
     worked: bool,
     swing_angle: f32,
     cone_angle: f32,
-    softness: Softness,
-    inv_h: f32,
-    use_bias: bool,
-    mass: f32,
-    axis: Vec3,
+    soft: LimitSoftness,
+    about: RowAxis,
     old_impulse: f32,
     m: InvMasses,
     v: Velocities,
 ) -> Row<f32>
-    ensures { result ≡ D.cone_row worked swing_angle cone_angle softness inv_h use_bias mass axis old_impulse m v }
+    ensures { result ≡ D.cone_row worked swing_angle cone_angle soft.softness soft.inv_h soft.use_bias about.mass about.axis old_impulse m v }
 {
     if !worked {
         return Row {
@@ -124,41 +120,11 @@ pub fn cone_row(
         };
     }
     let c = cone_angle - swing_angle;
-    let s = limit_bias(c, softness, inv_h, use_bias);
-    let sum = upper_limit_sum(s, mass, axis, old_impulse, v);
+    let s = limit_bias(c, soft);
+    let sum = upper_limit_sum(s, about, old_impulse, v);
     // a branch, as in the twist rows
     if sum > 0.0 {
-        return upper_row_to(sum, old_impulse, axis, m, v);
+        return upper_row_to(sum, old_impulse, about.axis, m, v);
     }
-    upper_row_to(0.0, old_impulse, axis, m, v)
-}
-
-// The point row, with its bias s, holds the two anchors together.
-#[tactic(auto, unfolding(crate::specs::Spherical::point_row, constraint::specs::Point::point_mass))]
-pub fn point_row(
-    s: SoftBias<Vec3>,
-    r_a: Vec3,
-    r_b: Vec3,
-    old_impulse: Vec3,
-    m: InvMasses,
-    v: Velocities,
-) -> PointRow
-    ensures { result ≡ D.point_row s r_a r_b old_impulse m v }
-{
-    let cdot = point_cdot(r_a, r_b, v);
-    let s_a = skew(r_a);
-    let s_b = skew(r_b);
-    let k_a = mul_mm(s_a, mul_mm(m.i_a, s_a));
-    let k_b = mul_mm(s_b, mul_mm(m.i_b, s_b));
-    let k = add_mass(negate_mat3(add_mm(k_a, k_b)), m.m_a + m.m_b);
-    let b = solve3(k, add(cdot, s.bias));
-    let delta_impulse = soft_impulse3(s, b.value, old_impulse);
-    let impulse = add(old_impulse, delta_impulse);
-    let velocities = apply_point(m, r_a, r_b, delta_impulse, v);
-    let mark = b.mark;
-    PointRow {
-        impulse,
-        velocities,
-        mark,
-    }
+    upper_row_to(0.0, old_impulse, about.axis, m, v)
 }

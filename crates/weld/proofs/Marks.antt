@@ -14,11 +14,12 @@ use Rattle.records.specs.declared.joint.JointBase.{JointBase}
 use Rattle.records.specs.declared.joint.WeldJoint.{WeldJoint}
 use Rattle.constraint.specs.Answer.{report}
 use Rattle.constraint.specs.Claims.{point_matrix}
-use Rattle.weld.specs.Weld.{keep_impulses, prepare_weld, point_row, solve_point, solve_weld}
+use Rattle.constraint.specs.Point.{point_row_at}
+use Rattle.weld.specs.Weld.{keep_impulses, prepare_weld, solve_point, solve_weld}
 
 pub solve_marks : (base : JointBase) (j : WeldJoint) (state_a state_b : BodyState) (use_bias : Bool) →
     (solve_weld base j state_a state_b use_bias).report ≡ report no_mark (solve3_mark (point_matrix base j.frame_a j.frame_b state_a state_b))
-unfolding solve_weld solve_point point_row
+unfolding solve_weld solve_point point_row_at
 solve_marks base j state_a state_b use_bias = refl
 
 kept_mass : (j : WeldJoint) (enable_warm_starting : Bool) → (keep_impulses j enable_warm_starting).angular_mass ≡ j.angular_mass

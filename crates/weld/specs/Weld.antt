@@ -6,10 +6,10 @@ use Rattle.math_functions.specs.declared.types.Matrix3.{Matrix3}
 use Rattle.math_functions.specs.declared.mark.Mark.{Mark}
 use Rattle.math_functions.specs.Float.{gt, eq, zero}
 use Rattle.math_functions.specs.Types.{vec3_zero, quat_identity}
-use Rattle.math_functions.specs.Vector.{add, neg}
+use Rattle.math_functions.specs.Vector.{neg}
 use Rattle.math_functions.specs.Quat.{rotate_vector, delta_quat_to_rotation}
 use Rattle.math_functions.specs.Mark.{no_mark}
-use Rattle.math_functions.specs.Matrix.{add_mm, invert_matrix, invert_matrix_mark, solve3, solve3_mark}
+use Rattle.math_functions.specs.Matrix.{add_mm, invert_matrix, invert_matrix_mark}
 use Rattle.math_functions.specs.Transform.{sub_pos}
 use Rattle.solver.specs.declared.Softness.{Softness}
 use Rattle.solver.specs.declared.StepContext.{StepContext}
@@ -28,19 +28,19 @@ use Rattle.constraint.specs.declared.soft.SoftBias.{SoftBias}
 use Rattle.constraint.specs.declared.rotation.RelativeRotation.{RelativeRotation}
 use Rattle.constraint.specs.declared.angular.Row.{Row}
 use Rattle.constraint.specs.declared.point.PointRow.{PointRow}
+use Rattle.constraint.specs.declared.kind.KindPrepared.{KindPrepared}
+use Rattle.constraint.specs.declared.kind.KindSolved.{KindSolved}
 use Rattle.constraint.specs.declared.answer.Report.{Report}
 use Rattle.constraint.specs.declared.answer.Prepared.{Prepared}
 use Rattle.constraint.specs.declared.answer.WarmStarted.{WarmStarted}
 use Rattle.constraint.specs.declared.answer.Solved.{Solved}
-use Rattle.constraint.specs.Velocity.{velocities_of, inv_masses_of, apply_point, apply_warm}
-use Rattle.constraint.specs.Soft.{soft_bias3, rigid3, soft_impulse3}
+use Rattle.constraint.specs.Velocity.{velocities_of, inv_masses_of, apply_warm}
+use Rattle.constraint.specs.Soft.{soft_bias3, rigid3}
 use Rattle.constraint.specs.Rotation.{flipped_relative_rotation}
 use Rattle.constraint.specs.Angular.{row, angular_row}
-use Rattle.constraint.specs.Point.{point_result, point_bias, point_cdot_grouped, point_mass}
+use Rattle.constraint.specs.Point.{point_bias, point_cdot_grouped, point_row_at}
 use Rattle.constraint.specs.Prepare.{prepare_base, awake_index, prepare_frame}
 use Rattle.constraint.specs.Answer.{prepared, not_prepared, warm_started, not_warm_started, report, solved, not_solved}
-use Rattle.weld.specs.declared.prepare.WeldPrepared.{WeldPrepared}
-use Rattle.weld.specs.declared.solve.WeldSolved.{WeldSolved}
 
 -- the joint with other impulses, and all else as it was: linear, angular
 abbrev pub with_impulses : WeldJoint → Vec3 → Vec3 → WeldJoint
@@ -56,11 +56,11 @@ row_spring hertz damping_ratio h constraint_softness = cond (eq hertz zero) cons
 unfoldable pub keep_impulses : WeldJoint → Bool → WeldJoint
 keep_impulses j enable_warm_starting = cond (not enable_warm_starting) (with_impulses j vec3_zero vec3_zero) j
 
-abbrev pub weld_prepared : JointBase → WeldJoint → Mark → WeldPrepared
+abbrev pub weld_prepared : JointBase → WeldJoint → Mark → KindPrepared WeldJoint
 weld_prepared base joint mass_mark = record { base = base; joint = joint; mass_mark = mass_mark }
 
 -- document 01's prepare, where delta_center is the difference of the centres. The angular mass is inverted whether or not rotation is fixed
-unfoldable pub prepare_weld : JointBase → WeldJoint → Float → Bool → Vec3 → BodyRecord → BodyRecord → WeldPrepared
+unfoldable pub prepare_weld : JointBase → WeldJoint → Float → Bool → Vec3 → BodyRecord → BodyRecord → KindPrepared WeldJoint
 prepare_weld base j h enable_warm_starting delta_center body_a body_b =
     let softness = base.constraint_softness in
     let inv_inertia_sum = add_mm body_a.inv_inertia_world body_b.inv_inertia_world in
@@ -106,13 +106,8 @@ weld_angular_row worked rotation use_bias hertz s mass old_impulse m v =
     cond (not worked) (row old_impulse v) (angular_row (angular_bias (is_soft use_bias hertz) s rotation) mass old_impulse m v)
 
 -- document 01's point row, with its bias; worked also when rotation is fixed. The velocity error is grouped, unlike revolute's and spherical's
-unfoldable pub point_row : SoftBias Vec3 → Vec3 → Vec3 → Vec3 → InvMasses → Velocities → PointRow
-point_row s r_a r_b old_impulse m v =
-    let cdot = point_cdot_grouped r_a r_b v in
-    let k = point_mass m r_a r_b in
-    let b = solve3 k (add cdot s.bias) in
-    let impulse = soft_impulse3 s b old_impulse in
-    point_result (add old_impulse impulse) (apply_point m r_a r_b impulse v) (solve3_mark k)
+abbrev pub point_row : SoftBias Vec3 → Vec3 → Vec3 → Vec3 → InvMasses → Velocities → PointRow
+point_row s r_a r_b old_impulse m v = point_row_at s (point_cdot_grouped r_a r_b v) r_a r_b old_impulse m v
 
 -- ==== Solve
 
@@ -138,11 +133,11 @@ solve_point j state_a state_b use_bias m v =
     let r_b = rotate_vector state_b.delta_rotation j.frame_b.p in
     point_row (solve_bias j r_a r_b state_a state_b use_bias) r_a r_b j.linear_impulse m v
 
-abbrev pub weld_solved : WeldJoint → Velocities → Report → WeldSolved
-weld_solved joint velocities r = record { joint = joint; velocities = velocities; report = r }
+abbrev pub weld_solved : WeldJoint → Velocities → Report → KindSolved WeldJoint
+weld_solved joint velocities r = record { joint = joint; angles = no_angles; velocities = velocities; report = r }
 
 -- document 01's rows of a weld solve, in order: angular, point. C-15: the mark of the point row is passed on; there is no perpendicular row
-unfoldable pub solve_weld : JointBase → WeldJoint → BodyState → BodyState → Bool → WeldSolved
+unfoldable pub solve_weld : JointBase → WeldJoint → BodyState → BodyState → Bool → KindSolved WeldJoint
 solve_weld base j state_a state_b use_bias =
     let m = inv_masses_of base in
     let rotation = joint_rotation j state_a state_b in
