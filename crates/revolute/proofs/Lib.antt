@@ -1,3 +1,3 @@
 pub mod Facts
 pub mod Marks
-mod Point
+pub mod Point

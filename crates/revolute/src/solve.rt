@@ -14,7 +14,7 @@ use constraint::point::{PointRow, point_bias, point_cdot, point_row};
 use constraint::rotation::{RelativeRotation, flipped_relative_rotation};
 use constraint::soft::LimitSoftness;
 use constraint::velocity::{InvMasses, Velocities, anchors_of, inv_masses_of, velocities_of};
-use math_functions::types::{Quat, Vec2, Vec3, nan};
+use math_functions::types::{Quat, nan};
 use records::body::BodyState;
 use records::joint::{JointBase, LimitAngles, RevoluteJoint};
 use solver::Softness;
@@ -143,60 +143,32 @@ fn solve_perp(
     )
 }
 
-// The point row at the fields of the joint and the states. The velocity error comes before the bias:
-// the other order costs 22 instructions a solve (1,727 by value with bias for 1,704).
-fn solve_point(
-    softness: Softness,
-    joint: RevoluteJoint,
-    state_a: BodyState,
-    state_b: BodyState,
-    use_bias: bool,
-    m: InvMasses,
-    v: Velocities,
-) -> PointRow
-    ensures { result ≡ D.solve_point softness joint state_a state_b use_bias m v }
-{
-    let anchors = anchors_of(joint.frame_a, joint.frame_b, state_a, state_b);
-    let cdot = point_cdot(anchors, v);
-    let bias = point_bias(
-        use_bias,
-        softness,
-        anchors,
-        joint.delta_center,
-        state_a,
-        state_b,
-    );
-    point_row(bias, cdot, anchors, joint.linear_impulse, m, v)
-}
-
-// The joint with the impulses and the perpendicular axes that its rows leave. They come one by one:
-// handed over in the rows that they stand in, a solve has 23 instructions more (1,727 by value with bias
-// for 1,704).
+// The joint with the impulses and the perpendicular axes that its rows leave.
 fn with_impulses(
     mut joint: RevoluteJoint,
-    linear_impulse: Vec3,
-    perp_impulse: Vec2,
-    spring_impulse: f32,
-    motor_impulse: f32,
+    point: PointRow,
+    perp: PerpRow,
+    spring: Row<f32>,
+    motor: Row<f32>,
     limits: LimitRows,
-    axes: PerpAxes,
 ) -> RevoluteJoint
-    ensures { result ≡ D.with_impulses joint linear_impulse perp_impulse spring_impulse motor_impulse limits.lower_impulse limits.upper_impulse
-        axes.x axes.y }
+    ensures { result ≡ D.with_impulses joint point.impulse perp.perp_impulse spring.impulse motor.impulse limits.lower_impulse limits.upper_impulse
+        perp.axes.x perp.axes.y }
 {
-    joint.linear_impulse = linear_impulse;
-    joint.perp_impulse = perp_impulse;
-    joint.spring_impulse = spring_impulse;
-    joint.motor_impulse = motor_impulse;
+    joint.linear_impulse = point.impulse;
+    joint.perp_impulse = perp.perp_impulse;
+    joint.spring_impulse = spring.impulse;
+    joint.motor_impulse = motor.impulse;
     joint.lower_impulse = limits.lower_impulse;
     joint.upper_impulse = limits.upper_impulse;
-    joint.perp_axis_x = axes.x;
-    joint.perp_axis_y = axes.y;
+    joint.perp_axis_x = perp.axes.x;
+    joint.perp_axis_y = perp.axes.y;
     joint
 }
 
-// The rows in order, each on the velocities that the row before it left.
-#[tactic(auto, unfolding(crate::specs::Revolute::solve_revolute))]
+// The rows in order, each on the velocities that the row before it left. The anchors and the point row's
+// bias wait for no velocity: they are computed a row before that row.
+#[tactic(auto, using(crate::proofs::Point::point_row_is), unfolding(crate::specs::Revolute::solve_revolute, crate::specs::Revolute::solve_point))]
 pub fn solve_revolute(
     base: JointBase,
     mut joint: RevoluteJoint,
@@ -209,7 +181,7 @@ pub fn solve_revolute(
     ensures { result ≡ D.solve_revolute base joint h inv_h state_a state_b use_bias }
 {
     let fixed = base.fixed_rotation;
-    let soft = base.constraint_softness;
+    let s = base.constraint_softness;
     let m = inv_masses_of(base);
     let v = velocities_of(state_a, state_b);
     let turn = joint_rotation(joint, state_a, state_b);
@@ -217,23 +189,19 @@ pub fn solve_revolute(
     let motor = solve_motor(fixed, joint, h, m, spring.velocities);
     let v = motor.velocities;
     let twist = twist_angle_if(is_worked(joint.enable_limit, fixed), turn.rel_q);
-    let softness = LimitSoftness {
-        softness: soft,
+    let soft = LimitSoftness {
+        softness: s,
         inv_h,
         use_bias,
     };
-    let limits = solve_limits(fixed, joint, twist, softness, m, v);
-    let perp = solve_perp(fixed, soft, joint, turn, use_bias, m, limits.velocities);
-    let point = solve_point(soft, joint, state_a, state_b, use_bias, m, perp.velocities);
-    joint = with_impulses(
-        joint,
-        point.impulse,
-        perp.perp_impulse,
-        spring.impulse,
-        motor.impulse,
-        limits,
-        perp.axes,
-    );
+    let limits = solve_limits(fixed, joint, twist, soft, m, v);
+    let anchors = anchors_of(joint.frame_a, joint.frame_b, state_a, state_b);
+    let bias = point_bias(use_bias, s, anchors, joint.delta_center, state_a, state_b);
+    let perp = solve_perp(fixed, s, joint, turn, use_bias, m, limits.velocities);
+    let v = perp.velocities;
+    let cdot = point_cdot(anchors, v);
+    let point = point_row(bias, cdot, anchors, joint.linear_impulse, m, v);
+    joint = with_impulses(joint, point, perp, spring, motor, limits);
     let angles = LimitAngles {
         twist,
         swing: nan(),
