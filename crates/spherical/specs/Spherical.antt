@@ -9,7 +9,7 @@ use Rattle.math_functions.specs.declared.mark.Mark.{Mark}
 use Rattle.math_functions.specs.Float.{◌⊕◌, ◌⊖◌, ◌⊗◌, ◌⊘◌, gt, zero}
 use Rattle.math_functions.specs.Types.{vec3_zero, vec3_axis_z, mat3_zero}
 use Rattle.math_functions.specs.Vector.{add, sub, neg, length, normalize, mul_add, mul_sub, mul_sv, cross}
-use Rattle.math_functions.specs.Quat.{rotate_vector, inv_mul_quat, delta_quat_to_rotation}
+use Rattle.math_functions.specs.Quat.{rotate_vector, inv_mul_quat}
 use Rattle.math_functions.specs.Mark.{no_mark}
 use Rattle.math_functions.specs.Matrix.{add_mm, mul_mv, invert_matrix, invert_matrix_mark}
 use Rattle.math_functions.specs.Transform.{sub_pos}
@@ -42,7 +42,7 @@ use Rattle.constraint.specs.declared.answer.WarmStarted.{WarmStarted}
 use Rattle.constraint.specs.declared.answer.Solved.{Solved}
 use Rattle.constraint.specs.Velocity.{velocities_of, inv_masses_of, apply_angular, apply_warm}
 use Rattle.constraint.specs.Soft.{soft_bias3, limit_bias}
-use Rattle.constraint.specs.Rotation.{relative_rotation}
+use Rattle.constraint.specs.Rotation.{relative_rotation, rotation_error}
 use Rattle.constraint.specs.Angular.{row, row_axis, is_worked, twist_angle_if, swing_angle_if, upper_limit_row, angular_row, twist_limit_rows}
 use Rattle.constraint.specs.Point.{point_bias, point_cdot, point_row_at}
 use Rattle.constraint.specs.Prepare.{prepare_base, awake_index, prepare_frame, axial_mass}
@@ -146,7 +146,7 @@ warm_start_spherical base j state_a state_b =
 -- Spring. The error is minus the rotation to the target, turned into the world; the softness is the spring's own, with or without bias.
 unfoldable pub spring_row : Bool → RelativeRotation → Quat → Softness → Matrix3 → Vec3 → InvMasses → Velocities → Row Vec3
 spring_row worked rotation target_rotation spring_softness rotation_mass old_impulse m v =
-    let c = neg (rotate_vector rotation.quat_a (delta_quat_to_rotation rotation.rel_q target_rotation)) in
+    let c = rotation_error rotation target_rotation in
     cond (not worked) (row old_impulse v) (angular_row (soft_bias3 spring_softness c) rotation_mass old_impulse m v)
 
 -- the motor's impulse before it is scaled

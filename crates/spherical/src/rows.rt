@@ -5,11 +5,10 @@ ghost use Rattle.spherical.specs.Spherical as D;
 ghost use Rattle.spherical.specs.Steps as Steps;
 
 use constraint::angular::{Row, RowAxis, angular_row, upper_limit_sum, upper_row_to};
-use constraint::rotation::RelativeRotation;
+use constraint::rotation::{RelativeRotation, rotation_error};
 use constraint::soft::{LimitSoftness, limit_bias, soft_bias};
 use constraint::velocity::{InvMasses, Velocities, apply_angular};
 use math_functions::matrix::mul_mv;
-use math_functions::quat::{delta_quat_to_rotation, rotate_vector};
 use math_functions::types::{Matrix3, Quat, Vec3};
 use math_functions::vector::{add, length, mul_sv, neg, sub};
 use solver::Softness;
@@ -34,9 +33,7 @@ pub fn spring_row(
             velocities: v,
         };
     }
-    // Rotation constraint error
-    let delta_rotation = delta_quat_to_rotation(rotation.rel_q, target_rotation);
-    let c = neg(rotate_vector(rotation.quat_a, delta_rotation));
+    let c = rotation_error(rotation, target_rotation);
     angular_row(soft_bias(softness, c), mass, old_impulse, m, v)
 }
 

@@ -6,8 +6,7 @@ use Rattle.math_functions.specs.declared.types.Matrix3.{Matrix3}
 use Rattle.math_functions.specs.declared.mark.Mark.{Mark}
 use Rattle.math_functions.specs.Float.{gt, eq, zero}
 use Rattle.math_functions.specs.Types.{vec3_zero, quat_identity}
-use Rattle.math_functions.specs.Vector.{neg}
-use Rattle.math_functions.specs.Quat.{rotate_vector, delta_quat_to_rotation}
+use Rattle.math_functions.specs.Quat.{rotate_vector}
 use Rattle.math_functions.specs.Mark.{no_mark}
 use Rattle.math_functions.specs.Matrix.{add_mm, invert_matrix, invert_matrix_mark}
 use Rattle.math_functions.specs.Transform.{sub_pos}
@@ -36,7 +35,7 @@ use Rattle.constraint.specs.declared.answer.WarmStarted.{WarmStarted}
 use Rattle.constraint.specs.declared.answer.Solved.{Solved}
 use Rattle.constraint.specs.Velocity.{velocities_of, inv_masses_of, apply_warm}
 use Rattle.constraint.specs.Soft.{soft_bias3, rigid3}
-use Rattle.constraint.specs.Rotation.{flipped_relative_rotation}
+use Rattle.constraint.specs.Rotation.{flipped_relative_rotation, rotation_error}
 use Rattle.constraint.specs.Angular.{row, angular_row}
 use Rattle.constraint.specs.Point.{point_bias, point_cdot_grouped, point_row_at}
 use Rattle.constraint.specs.Prepare.{prepare_base, awake_index, prepare_frame}
@@ -96,9 +95,7 @@ is_soft use_bias hertz = use_bias || gt hertz zero
 -- the error is minus the rotation that takes rel_q to the identity, turned into the world by quat_a
 unfoldable pub angular_bias : Bool → Softness → RelativeRotation → SoftBias Vec3
 angular_bias soft s rotation =
-    let delta_rotation = delta_quat_to_rotation rotation.rel_q quat_identity in
-    let c = neg (rotate_vector rotation.quat_a delta_rotation) in
-    cond soft (soft_bias3 s c) rigid3
+    cond soft (soft_bias3 s (rotation_error rotation quat_identity)) rigid3
 
 -- document 01's angular row, skipped when rotation is fixed
 unfoldable pub weld_angular_row : Bool → RelativeRotation → Bool → Float → Softness → Matrix3 → Vec3 → InvMasses → Velocities → Row Vec3

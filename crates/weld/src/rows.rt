@@ -3,12 +3,10 @@ ghost use Rattle.std.specs.Prelude.{◌≡◌};
 ghost use Rattle.weld.specs.Weld as D;
 
 use constraint::angular::{Row, angular_row};
-use constraint::rotation::RelativeRotation;
+use constraint::rotation::{RelativeRotation, rotation_error};
 use constraint::soft::{SoftBias, rigid, soft_bias};
 use constraint::velocity::{InvMasses, Velocities};
-use math_functions::quat::{delta_quat_to_rotation, rotate_vector};
 use math_functions::types::{Matrix3, QUAT_IDENTITY, Vec3};
-use math_functions::vector::neg;
 use solver::Softness;
 
 // A row whose hertz is above zero is soft also where the call has no bias.
@@ -25,10 +23,7 @@ fn angular_bias(soft: bool, softness: Softness, rotation: RelativeRotation) -> S
     ensures { result ≡ D.angular_bias soft softness rotation }
 {
     if soft {
-        let target_quat = QUAT_IDENTITY;
-        let delta_rotation = delta_quat_to_rotation(rotation.rel_q, target_quat);
-        let c = neg(rotate_vector(rotation.quat_a, delta_rotation));
-        soft_bias(softness, c)
+        soft_bias(softness, rotation_error(rotation, QUAT_IDENTITY))
     } else {
         rigid()
     }
