@@ -16,8 +16,9 @@ use Rattle.records.specs.Joint.{is_some, of_kind}
 use Rattle.constraint.specs.declared.velocity.Velocities.{Velocities}
 use Rattle.constraint.specs.declared.velocity.InvMasses.{InvMasses}
 use Rattle.constraint.specs.declared.soft.SoftBias.{SoftBias}
+use Rattle.constraint.specs.declared.angular.TwistLimit.{TwistLimit}
 use Rattle.constraint.specs.Soft.{limit_impulse}
-use Rattle.constraint.specs.Angular.{is_worked, lower_limit_row, upper_limit_row, TwistLimit, twist_limit_rows}
+use Rattle.constraint.specs.Angular.{is_worked, lower_limit_row, upper_limit_row, twist_limit_rows}
 use Rattle.constraint.specs.Claims.{NonNegative, AtMostOne, BothOfKind}
 
 pub max_float_non_negative : (x : Float) → NonNegative (max_float x zero)
@@ -28,16 +29,16 @@ max_float_non_negative x = record { compares = go (gt x zero) refl }
     go true h = rw h
     go false h = refl
 
-pub limit_impulse_non_negative : (s : SoftBias) (mass cdot old : Float) → NonNegative (limit_impulse s mass cdot old)
+pub limit_impulse_non_negative : (s : SoftBias Float) (mass cdot old : Float) → NonNegative (limit_impulse s mass cdot old)
 unfolding limit_impulse
 limit_impulse_non_negative s mass cdot old = max_float_non_negative _
 
-pub lower_limit_row_non_negative : (s : SoftBias) (mass : Float) (axis : Vec3) (old : Float) (m : InvMasses) (v : Velocities) → NonNegative
+pub lower_limit_row_non_negative : (s : SoftBias Float) (mass : Float) (axis : Vec3) (old : Float) (m : InvMasses) (v : Velocities) → NonNegative
     (lower_limit_row s mass axis old m v).impulse
 unfolding lower_limit_row
 lower_limit_row_non_negative s mass axis old m v = limit_impulse_non_negative _ _ _ _
 
-pub upper_limit_row_non_negative : (s : SoftBias) (mass : Float) (axis : Vec3) (old : Float) (m : InvMasses) (v : Velocities) → NonNegative
+pub upper_limit_row_non_negative : (s : SoftBias Float) (mass : Float) (axis : Vec3) (old : Float) (m : InvMasses) (v : Velocities) → NonNegative
     (upper_limit_row s mass axis old m v).impulse
 unfolding upper_limit_row
 upper_limit_row_non_negative s mass axis old m v = limit_impulse_non_negative _ _ _ _

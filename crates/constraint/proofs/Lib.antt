@@ -1,2 +1,4 @@
 pub mod Facts
 pub mod Fixed
+pub mod Limits
+pub mod Impulse

@@ -6,18 +6,19 @@ use Rattle.math_functions.specs.declared.mark.Mark.{Mark}
 use Rattle.math_functions.specs.Float.{◌⊕◌}
 use Rattle.math_functions.specs.Types.{vec3, matrix3}
 use Rattle.math_functions.specs.Vector.{add, sub, cross}
-use Rattle.math_functions.specs.Matrix.{add_mm, mul_mm, negate_mat3, skew}
+use Rattle.math_functions.specs.Matrix.{add_mm, mul_mm, negate_mat3, skew, solve3, solve3_mark}
 use Rattle.solver.specs.declared.Softness.{Softness}
 use Rattle.constraint.specs.declared.velocity.Velocities.{Velocities}
 use Rattle.constraint.specs.declared.velocity.InvMasses.{InvMasses}
-use Rattle.constraint.specs.declared.soft.SoftBias3.{SoftBias3}
+use Rattle.constraint.specs.declared.soft.SoftBias.{SoftBias}
 use Rattle.constraint.specs.declared.point.PointRow.{PointRow}
-use Rattle.constraint.specs.Soft.{soft_bias3, rigid3}
+use Rattle.constraint.specs.Soft.{soft_bias3, rigid3, soft_impulse3}
+use Rattle.constraint.specs.Velocity.{apply_point}
 
 abbrev pub point_result : Vec3 → Velocities → Mark → PointRow
 point_result impulse velocities mark = record { impulse = impulse; velocities = velocities; mark = mark }
 
-unfoldable pub point_bias : Bool → Softness → Vec3 → Vec3 → Vec3 → Vec3 → Vec3 → SoftBias3
+unfoldable pub point_bias : Bool → Softness → Vec3 → Vec3 → Vec3 → Vec3 → Vec3 → SoftBias Vec3
 point_bias is_soft s r_a r_b dc_a dc_b delta_center =
     let separation = add (add (sub dc_b dc_a) (sub r_b r_a)) delta_center in
     cond is_soft (soft_bias3 s separation) rigid3
@@ -45,3 +46,12 @@ point_cdot r_a r_b v = sub (sub (add v.v_b (cross v.w_b r_b)) v.v_a) (cross v.w_
 -- weld groups (v_b + w_b × r_b) − (v_a + w_a × r_a)
 unfoldable pub point_cdot_grouped : Vec3 → Vec3 → Velocities → Vec3
 point_cdot_grouped r_a r_b v = sub (add v.v_b (cross v.w_b r_b)) (add v.v_a (cross v.w_a r_a))
+
+-- the point row that the three kinds work, each with a bias of its own and its velocity error. (Revolute's definition writes out its impulse, of which the
+-- operations are the same.)
+unfoldable pub point_row_at : SoftBias Vec3 → Vec3 → Vec3 → Vec3 → Vec3 → InvMasses → Velocities → PointRow
+point_row_at s cdot r_a r_b old_impulse m v =
+    let k = point_mass m r_a r_b in
+    let b = solve3 k (add cdot s.bias) in
+    let impulse = soft_impulse3 s b old_impulse in
+    point_result (add old_impulse impulse) (apply_point m r_a r_b impulse v) (solve3_mark k)

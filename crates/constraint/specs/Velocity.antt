@@ -3,11 +3,14 @@
 use Rattle.std.specs.Prelude.{Float}
 use Rattle.math_functions.specs.declared.types.Vec3.{Vec3}
 use Rattle.math_functions.specs.Vector.{add, sub, cross, mul_add, mul_sub}
+use Rattle.math_functions.specs.declared.types.Transform.{Transform}
 use Rattle.math_functions.specs.Matrix.{mul_mv}
+use Rattle.math_functions.specs.Quat.{rotate_vector}
 use Rattle.records.specs.declared.body.BodyState.{BodyState}
 use Rattle.records.specs.declared.joint.JointBase.{JointBase}
 use Rattle.constraint.specs.declared.velocity.Velocities.{Velocities}
 use Rattle.constraint.specs.declared.velocity.InvMasses.{InvMasses}
+use Rattle.constraint.specs.declared.velocity.Anchors.{Anchors}
 
 abbrev pub velocities : Vec3 → Vec3 → Vec3 → Vec3 → Velocities
 velocities v_a w_a v_b w_b = record { v_a = v_a; w_a = w_a; v_b = v_b; w_b = w_b }
@@ -18,6 +21,11 @@ velocities_of a b = velocities a.linear_velocity a.angular_velocity b.linear_vel
 
 unfoldable pub inv_masses_of : JointBase → InvMasses
 inv_masses_of base = record { m_a = base.inv_mass_a; m_b = base.inv_mass_b; i_a = base.inv_i_a; i_b = base.inv_i_b }
+
+-- r_a and r_b reach from the centres to the anchors
+abbrev pub anchors_of : Transform → Transform → BodyState → BodyState → Anchors
+anchors_of frame_a frame_b state_a state_b =
+    record { r_a = rotate_vector state_a.delta_rotation frame_a.p; r_b = rotate_vector state_b.delta_rotation frame_b.p }
 
 -- revolute's spring and motor, and the lower limits: w_a loses the impulse, w_b gains it
 unfoldable pub apply_axial : InvMasses → Float → Vec3 → Velocities → Velocities

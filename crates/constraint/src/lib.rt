@@ -4,6 +4,7 @@
 
 pub mod angular;
 pub mod answer;
+pub mod kind;
 pub mod point;
 pub mod prepare;
 pub mod rotation;

@@ -32,21 +32,21 @@ unfolding Ieee.of_bits Ieee.neg Ieee.add Ieee.sub Ieee.mul Ieee.div Ieee.lt Ieee
     Matrix.skew Transform.sub_pos Solver.make_soft Body.is_dynamic Body.store_velocities
     Velocity.velocities_of Velocity.inv_masses_of Velocity.apply_axial Velocity.apply_axial_flipped Velocity.apply_angular Velocity.apply_point
     Velocity.apply_warm
-    Soft.soft_bias Soft.soft_bias2 Soft.soft_bias3 Soft.limit_bias Soft.soft_impulse Soft.soft_impulse3 Soft.soft_impulse3_products Soft.limit_sum
+    Soft.soft_bias_of Soft.limit_bias Soft.soft_impulse Soft.soft_impulse3 Soft.soft_impulse_of Soft.limit_sum
     Soft.limit_impulse
     Rotation.same_polarity Rotation.relative_rotation Rotation.flipped_relative_rotation
     Angular.is_worked Angular.twist_angle_if Angular.swing_angle_if Angular.lower_limit_row Angular.upper_limit_row Angular.angular_row Angular.twist_limit_rows
-    Point.point_bias Point.point_mass Point.point_cdot Point.point_cdot_grouped
+    Point.point_bias Point.point_mass Point.point_cdot Point.point_cdot_grouped Point.point_row_at
     Prepare.prepare_base Prepare.awake_index Prepare.prepare_frame Prepare.axial_mass
-    R.spring_row R.motor_sum R.motor_row R.perp_axis R.perp_bias R.perp_mass R.soft_impulse2_products R.perp_angular_impulse R.collinear_row R.perp_row
+    R.spring_row R.motor_sum R.motor_row R.perp_axis R.perp_bias R.perp_mass R.perp_angular_impulse R.collinear_row R.perp_row
     R.point_row R.joint_rotation
     R.solve_spring R.solve_motor R.solve_limits R.solve_perp R.solve_point R.solve_revolute R.warm_angular_impulse R.warm_start_revolute R.keep_impulses
     R.prepare_revolute R.prepare_revolute_joint R.warm_start_revolute_joint R.solve_revolute_joint
-    S.spring_row S.motor_sum S.limit_length S.motor_row S.cone_row S.point_row S.joint_rotation S.solve_spring S.solve_motor S.solve_limits S.solve_cone
+    S.spring_row S.motor_sum S.limit_length S.motor_row S.cone_row S.joint_rotation S.solve_spring S.solve_motor S.solve_limits S.solve_cone
     S.solve_bias S.solve_point
     S.prepare_swing S.twist_jacobian S.prepare_twist S.prepare_rotation_mass S.keep_impulses
     S.prepare_spherical S.warm_start_spherical S.solve_spherical S.prepare_spherical_joint S.warm_start_spherical_joint S.solve_spherical_joint
-    W.row_spring W.keep_impulses W.prepare_weld W.warm_start_weld W.is_soft W.angular_bias W.weld_angular_row W.point_row W.joint_rotation W.solve_angular
+    W.row_spring W.keep_impulses W.prepare_weld W.warm_start_weld W.is_soft W.angular_bias W.weld_angular_row W.joint_rotation W.solve_angular
     W.solve_bias W.solve_point W.solve_weld W.prepare_weld_joint W.warm_start_weld_joint W.solve_weld_joint
     Stage.warm_start_as Stage.solve_as Stage.stage_joint Scene.store
 computed = tt

@@ -85,7 +85,7 @@ module _ (joint : JointSim) (context : StepContext) (body_a body_b : BodyRecord)
   fell_back (Spherical r) is =
       rw is (λ e. ap Some (Spherical-marks.prepare_fell_back joint.base r context.h context.enable_warm_starting _ body_a body_b e))
   fell_back (Weld w) is =
-      rw is (λ e. ap Some (Weld-marks.prepare_fell_back joint.base w context.h context.enable_warm_starting _ body_a body_b (cc)))
+      rw is (λ e. ap Some (Weld-marks.prepare_fell_back joint.base w context.h context.enable_warm_starting _ body_a body_b e))
   fell_back Other is = λ e. cc
 
 pub prepare_fell_back : PrepareFellBack
@@ -161,7 +161,7 @@ mark_of_case_lem : (base : JointBase) (angles : LimitAngles) (c : StepContext) (
 unfolding prepare_as prepare_revolute_joint prepare_spherical_joint prepare_weld_joint
 mark_of_case_lem base angles c body_a body_b (Revolute r) = refl
 mark_of_case_lem base angles c body_a body_b (Spherical r) = Spherical-marks.prepare_mark base r c.h c.enable_warm_starting _ body_a body_b
-mark_of_case_lem base angles c body_a body_b (Weld w) = ap Some (Weld-marks.prepare_mark base w c.h c.enable_warm_starting _ body_a body_b)
+mark_of_case_lem base angles c body_a body_b (Weld w) = Weld-marks.prepare_mark base w c.h c.enable_warm_starting _ body_a body_b
 mark_of_case_lem base angles c body_a body_b Other = refl
 
 pub prepare_mark_reads : PrepareMarkReads

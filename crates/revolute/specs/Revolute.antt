@@ -11,7 +11,7 @@ use Rattle.math_functions.specs.Float.{◌⊕◌, ◌⊖◌, ◌⊗◌, neg, lit
 use Rattle.math_functions.specs.Types.{vec2, mat2, vec2_zero, vec3_zero, vec3_axis_x, vec3_axis_y, vec3_axis_z}
 use Rattle.math_functions.specs.Scalar.{clamp_float}
 use Rattle.math_functions.specs.Vector.{add, sub, dot, mul_add, mul_sv, cross}
-use Rattle.math_functions.specs.Internal.{add2, sub2, mul_sv2}
+use Rattle.math_functions.specs.Internal.{add2}
 use Rattle.math_functions.specs.Quat.{rotate_vector, inv_mul_quat, get_twist_angle}
 use Rattle.math_functions.specs.Mark.{no_mark}
 use Rattle.math_functions.specs.Matrix.{add_mm, mul_mv, solve2, solve2_mark, solve3, solve3_mark}
@@ -31,24 +31,26 @@ use Rattle.records.specs.Revolute.{Written, Made, built, settings_of, with_writt
 use Rattle.constraint.specs.declared.velocity.Velocities.{Velocities}
 use Rattle.constraint.specs.declared.velocity.InvMasses.{InvMasses}
 use Rattle.constraint.specs.declared.rotation.RelativeRotation.{RelativeRotation}
-use Rattle.constraint.specs.declared.soft.SoftBias2.{SoftBias2}
-use Rattle.constraint.specs.declared.angular.AxialRow.{AxialRow}
+use Rattle.constraint.specs.declared.soft.SoftBias.{SoftBias}
+use Rattle.constraint.specs.declared.angular.Row.{Row}
 use Rattle.constraint.specs.declared.angular.LimitRows.{LimitRows}
+use Rattle.constraint.specs.declared.angular.TwistLimit.{TwistLimit}
 use Rattle.constraint.specs.declared.point.PointRow.{PointRow}
+use Rattle.constraint.specs.declared.kind.KindPrepared.{KindPrepared}
+use Rattle.constraint.specs.declared.kind.KindSolved.{KindSolved}
 use Rattle.constraint.specs.declared.answer.Report.{Report}
 use Rattle.constraint.specs.Answer.{PreparedAnswer}
 use Rattle.constraint.specs.Answer.{WarmStartedAnswer}
 use Rattle.constraint.specs.Answer.{SolvedAnswer}
 use Rattle.constraint.specs.Velocity.{velocities_of, inv_masses_of, apply_axial, apply_angular, apply_point, apply_warm}
-use Rattle.constraint.specs.Soft.{soft_bias, soft_bias2, soft_impulse, soft_impulse3_products, rigid2}
+use Rattle.constraint.specs.Soft.{soft_bias, soft_bias2, soft_impulse, soft_impulse2_products, soft_impulse3_products, rigid2}
 use Rattle.constraint.specs.Rotation.{flipped_relative_rotation}
-use Rattle.constraint.specs.Angular.{axial_row, is_worked, twist_angle_if, TwistLimit, twist_limit_rows}
+use Rattle.constraint.specs.Angular.{row, row_axis, is_worked, twist_angle_if, twist_limit_rows}
 use Rattle.constraint.specs.Point.{point_result, point_bias, point_mass, point_cdot}
 use Rattle.constraint.specs.Prepare.{prepare_base, prepare_frame, awake_index, axial_mass}
 use Rattle.constraint.specs.Answer.{prepared, not_prepared, warm_started, not_warm_started, report, solved, not_solved}
-use Rattle.revolute.specs.declared.prepare.RevolutePrepared.{RevolutePrepared}
+use Rattle.revolute.specs.declared.prepare.PerpAxes.{PerpAxes}
 use Rattle.revolute.specs.declared.rows.PerpRow.{PerpRow}
-use Rattle.revolute.specs.declared.solve.RevoluteSolved.{RevoluteSolved}
 
 -- the joint with other impulses and other perpendicular axes, and all else as it was: linear, perp, spring, motor, lower, upper, axis X, axis Y
 abbrev pub with_impulses : RevoluteJoint → Vec3 → Vec2 → Float → Float → Float → Float → Vec3 → Vec3 → RevoluteJoint
@@ -75,6 +77,9 @@ half = lit 0x3f00_0000
 unfoldable pub perp_axis : Quat → Quat → Vec3 → Vec3
 perp_axis q rel_q axis = mul_sv half (rotate_vector q (add (mul_sv rel_q.s axis) (cross rel_q.v axis)))
 
+abbrev pub perp_axes : Quat → Quat → PerpAxes
+perp_axes q rel_q = record { x = perp_axis q rel_q vec3_axis_x; y = perp_axis q rel_q vec3_axis_y }
+
 -- what a solve writes, as the joint has it but for the perpendicular axes
 abbrev pub written_with_axes : RevoluteJoint → Vec3 → Vec3 → Written
 written_with_axes j perp_axis_x perp_axis_y =
@@ -94,11 +99,11 @@ unfoldable pub keep_impulses : RevoluteJoint → Bool → RevoluteJoint
 keep_impulses j enable_warm_starting =
     cond (not enable_warm_starting) (with_impulses j vec3_zero vec2_zero zero zero zero zero j.perp_axis_x j.perp_axis_y) j
 
-abbrev pub revolute_prepared : JointBase → RevoluteJoint → RevolutePrepared
-revolute_prepared base joint = record { base = base; joint = joint }
+abbrev pub revolute_prepared : JointBase → RevoluteJoint → KindPrepared RevoluteJoint
+revolute_prepared base joint = record { base = base; joint = joint; mass_mark = no_mark }
 
 -- document 01's prepare, where delta_center is the difference of the centres. The rotation axis is the z-axis of frame A; delta_angle stays
-unfoldable pub prepare_revolute : JointBase → RevoluteJoint → Float → Bool → Vec3 → BodyRecord → BodyRecord → RevolutePrepared
+unfoldable pub prepare_revolute : JointBase → RevoluteJoint → Float → Bool → Vec3 → BodyRecord → BodyRecord → KindPrepared RevoluteJoint
 prepare_revolute base j h enable_warm_starting delta_center body_a body_b =
     let inv_inertia_sum = add_mm body_a.inv_inertia_world body_b.inv_inertia_world in
     let frame_a = prepare_frame body_a base.local_frame_a in
@@ -143,12 +148,12 @@ warm_start_revolute base j state_a state_b =
 -- Each takes the fields that it reads. The first parameter of a row that can be skipped says whether it is worked; if not, it leaves all as it was.
 
 -- document 01's spring: of one dimension, about the rotation axis (spherical's is of three)
-unfoldable pub spring_row : Bool → Quat → Float → Softness → Float → Vec3 → Float → InvMasses → Velocities → AxialRow
+unfoldable pub spring_row : Bool → Quat → Float → Softness → Float → Vec3 → Float → InvMasses → Velocities → Row Float
 spring_row worked rel_q target_angle softness mass axis old_impulse m v =
     let c = get_twist_angle rel_q ⊖ target_angle in
     let cdot = dot (sub v.w_b v.w_a) axis in
     let delta_impulse = soft_impulse (soft_bias softness c) mass cdot old_impulse in
-    cond (not worked) (axial_row old_impulse v) (axial_row (old_impulse ⊕ delta_impulse) (apply_axial m delta_impulse axis v))
+    cond (not worked) (row old_impulse v) (row (old_impulse ⊕ delta_impulse) (apply_axial m delta_impulse axis v))
 
 -- the motor's impulse before it is clamped
 unfoldable pub motor_sum : Float → Float → Vec3 → Float → Velocities → Float
@@ -157,14 +162,14 @@ motor_sum motor_speed mass axis old_impulse v =
     old_impulse ⊕ neg mass ⊗ cdot
 
 -- document 01's motor: the impulse is clamped by its two signs (spherical's by its length)
-unfoldable pub motor_row : Bool → Float → Float → Float → Float → Vec3 → Float → InvMasses → Velocities → AxialRow
+unfoldable pub motor_row : Bool → Float → Float → Float → Float → Vec3 → Float → InvMasses → Velocities → Row Float
 motor_row worked motor_speed max_motor_torque h mass axis old_impulse m v =
     let max_impulse = max_motor_torque ⊗ h in
     let new_impulse = clamp_float (motor_sum motor_speed mass axis old_impulse v) (neg max_impulse) max_impulse in
-    cond (not worked) (axial_row old_impulse v) (axial_row new_impulse (apply_axial m (new_impulse ⊖ old_impulse) axis v))
+    cond (not worked) (row old_impulse v) (row new_impulse (apply_axial m (new_impulse ⊖ old_impulse) axis v))
 
 -- soft only where the call has bias
-unfoldable pub perp_bias : Bool → Softness → Quat → SoftBias2
+unfoldable pub perp_bias : Bool → Softness → Quat → SoftBias Vec2
 perp_bias use_bias softness rel_q = cond use_bias (soft_bias2 softness (vec2 rel_q.v.x rel_q.v.y)) rigid2
 
 -- the 2-by-2 matrix that is solved
@@ -175,16 +180,12 @@ perp_mass inv_inertia_sum axis_x axis_y =
     let kxy = dot axis_x (mul_mv inv_inertia_sum axis_y) in
     mat2 (vec2 kxx kxy) (vec2 kxy kyy)
 
--- as in the point row, two products are subtracted
-unfoldable pub soft_impulse2_products : SoftBias2 → Vec2 → Vec2 → Vec2
-soft_impulse2_products s b old_impulse = sub2 (mul_sv2 (neg s.mass_scale) b) (mul_sv2 s.impulse_scale old_impulse)
-
 abbrev pub perp_result : Vec2 → Vec3 → Vec3 → Velocities → Option Mark → PerpRow
 perp_result impulse axis_x axis_y velocities mark =
-    record { perp_impulse = impulse; perp_axis_x = axis_x; perp_axis_y = axis_y; velocities = velocities; mark = mark }
+    record { perp_impulse = impulse; axes = record { x = axis_x; y = axis_y }; velocities = velocities; mark = mark }
 
--- the 2-by-2 solve, once the two axes are known, and its mark
-unfoldable pub collinear_row : SoftBias2 → Vec3 → Vec3 → Vec2 → InvMasses → Velocities → PerpRow
+-- the 2-by-2 solve, once the two axes are known, and its mark. As in the point row, two products are subtracted
+unfoldable pub collinear_row : SoftBias Vec2 → Vec3 → Vec3 → Vec2 → InvMasses → Velocities → PerpRow
 collinear_row s axis_x axis_y old_impulse m v =
     let k = perp_mass (add_mm m.i_a m.i_b) axis_x axis_y in
     let w_rel = sub v.w_b v.w_a in
@@ -220,12 +221,12 @@ joint_rotation j state_a state_b = flipped_relative_rotation state_a.delta_rotat
 
 -- The rows at the fields of the joint and the states. All but the point row are skipped when rotation is fixed.
 
-unfoldable pub solve_spring : Bool → RevoluteJoint → Quat → InvMasses → Velocities → AxialRow
+unfoldable pub solve_spring : Bool → RevoluteJoint → Quat → InvMasses → Velocities → Row Float
 solve_spring fixed_rotation j rel_q m v =
     spring_row (is_worked j.enable_spring fixed_rotation) rel_q j.target_angle j.spring_softness j.axial_mass j.rotation_axis_z
     j.spring_impulse m v
 
-unfoldable pub solve_motor : Bool → RevoluteJoint → Float → InvMasses → Velocities → AxialRow
+unfoldable pub solve_motor : Bool → RevoluteJoint → Float → InvMasses → Velocities → Row Float
 solve_motor fixed_rotation j h m v =
     motor_row (is_worked j.enable_motor fixed_rotation) j.motor_speed j.max_motor_torque h j.axial_mass j.rotation_axis_z
     j.motor_impulse m v
@@ -237,8 +238,7 @@ twist_limit j angle =
       angle = angle;
       lower_angle = j.lower_angle;
       upper_angle = j.upper_angle;
-      mass = j.axial_mass;
-      axis = j.rotation_axis_z;
+      about = row_axis j.rotation_axis_z j.axial_mass;
       lower_impulse = j.lower_impulse;
       upper_impulse = j.upper_impulse;
     }
@@ -257,12 +257,12 @@ solve_point softness j state_a state_b use_bias m v =
     let r_b = rotate_vector state_b.delta_rotation j.frame_b.p in
     point_row use_bias softness r_a r_b state_a.delta_position state_b.delta_position j.delta_center j.linear_impulse m v
 
-abbrev pub revolute_solved : RevoluteJoint → LimitAngles → Velocities → Report → RevoluteSolved
+abbrev pub revolute_solved : RevoluteJoint → LimitAngles → Velocities → Report → KindSolved RevoluteJoint
 revolute_solved joint angles velocities r = record { joint = joint; angles = angles; velocities = velocities; report = r }
 
 -- document 01's rows of a solve, in order: spring, motor, lower, upper, two perpendicular axes, point. C-11: the angle of the limit's rows is stored as the
 -- twist, and NaN as the swing: there is no cone. C-15: the marks of the perpendicular and the point row are passed on
-unfoldable pub solve_revolute : JointBase → RevoluteJoint → Float → Float → BodyState → BodyState → Bool → RevoluteSolved
+unfoldable pub solve_revolute : JointBase → RevoluteJoint → Float → Float → BodyState → BodyState → Bool → KindSolved RevoluteJoint
 solve_revolute base j h inv_h state_a state_b use_bias =
     let m = inv_masses_of base in
     let fixed_rotation = base.fixed_rotation in
@@ -276,7 +276,7 @@ solve_revolute base j h inv_h state_a state_b use_bias =
     let point = solve_point softness j state_a state_b use_bias m perp.velocities in
     revolute_solved
     (with_impulses j point.impulse perp.perp_impulse spring.impulse motor.impulse limits.lower_impulse limits.upper_impulse
-    perp.perp_axis_x perp.perp_axis_y)
+    perp.axes.x perp.axes.y)
     (limit_angles angle nan)
     point.velocities
     (report perp.mark (Some point.mark))

@@ -2,6 +2,7 @@
 ghost use Rattle.std.specs.Prelude.{◌≡◌};
 ghost use Rattle.revolute.specs.Revolute as D;
 
+use constraint::kind::KindPrepared;
 use constraint::prepare::{awake_index, axial_mass, prepare_base, prepare_frame};
 use math_functions::matrix::add_mm;
 use math_functions::quat::{inv_mul_quat, rotate_vector};
@@ -13,23 +14,32 @@ use records::body::BodyRecord;
 use records::joint::{JointBase, RevoluteJoint};
 use solver::make_soft;
 
-// What prepare leaves.
+// The two axes that stay collinear, in the world: the perpendicular row's impulse is about them.
 #[derive(Clone, Copy)]
-pub struct RevolutePrepared {
-    pub base: JointBase,
-    pub joint: RevoluteJoint,
+pub struct PerpAxes {
+    pub x: Vec3,
+    pub y: Vec3,
 }
 
-// One of the two axes that stay collinear, in the world, where q is the rotation of frame A.
+// One of the two axes, where q is the rotation of frame A.
 #[tactic(auto, unfolding(crate::specs::Revolute::perp_axis))]
-pub fn perp_axis(q: Quat, rel_q: Quat, axis: Vec3) -> Vec3
+fn perp_axis(q: Quat, rel_q: Quat, axis: Vec3) -> Vec3
     ensures { result ≡ D.perp_axis q rel_q axis }
 {
     let turned = add(mul_sv(rel_q.s, axis), cross(rel_q.v, axis));
     mul_sv(0.5, rotate_vector(q, turned))
 }
 
-// The impulses stay only for a warm start.
+pub fn perp_axes(q: Quat, rel_q: Quat) -> PerpAxes
+    ensures { result ≡ D.perp_axes q rel_q }
+{
+    let x = perp_axis(q, rel_q, VEC3_AXIS_X);
+    let y = perp_axis(q, rel_q, VEC3_AXIS_Y);
+    PerpAxes { x, y }
+}
+
+// The impulses stay only for a warm start. Each kind has its own of these: they have the test alike, and
+// not the impulses.
 #[tactic(auto, unfolding(crate::specs::Revolute::keep_impulses))]
 fn keep_impulses(mut joint: RevoluteJoint, enable_warm_starting: bool) -> RevoluteJoint
     ensures { result ≡ D.keep_impulses joint enable_warm_starting }
@@ -58,7 +68,7 @@ pub fn prepare_revolute(
     delta_center: Vec3,
     body_a: BodyRecord,
     body_b: BodyRecord,
-) -> RevolutePrepared
+) -> KindPrepared<RevoluteJoint>
     ensures { result ≡ D.prepare_revolute base joint h enable_warm_starting delta_center body_a body_b }
 {
     let inv_inertia_sum = add_mm(body_a.inv_inertia_world, body_b.inv_inertia_world);
@@ -77,10 +87,17 @@ pub fn prepare_revolute(
     joint.rotation_axis_z = rotation_axis_z;
 
     // These are needed for warm starting
-    joint.perp_axis_x = perp_axis(frame_a.q, rel_q, VEC3_AXIS_X);
-    joint.perp_axis_y = perp_axis(frame_a.q, rel_q, VEC3_AXIS_Y);
+    let axes = perp_axes(frame_a.q, rel_q);
+    let x = axes.x;
+    let y = axes.y;
+    joint.perp_axis_x = x;
+    joint.perp_axis_y = y;
     joint.spring_softness = make_soft(joint.hertz, joint.damping_ratio, h);
     base = prepare_base(base, body_a, body_b);
     joint = keep_impulses(joint, enable_warm_starting);
-    RevolutePrepared { base, joint }
+    KindPrepared {
+        base,
+        joint,
+        mass_mark: None,
+    }
 }

@@ -1,40 +1,42 @@
 // The solve of a revolute joint by value, which works the rows.
 ghost use Rattle.std.specs.Prelude.{◌≡◌};
+ghost use Rattle.constraint.specs.Angular as Angular;
 ghost use Rattle.revolute.specs.Revolute as D;
 
-use crate::rows::{PerpRow, motor_row, perp_row, point_row, spring_row};
+use crate::prepare::PerpAxes;
+use crate::rows::{PerpRow, motor_row, perp_row, spring_row};
 use constraint::angular::{
-    AxialRow, LimitRows, is_worked, limit_rows, lower_limit_sum, twist_angle_if, upper_limit_row,
+    LimitRows, Row, RowAxis, TwistLimit, is_worked, row_axis, twist_angle_if, twist_limit_rows,
 };
 use constraint::answer::Report;
-use constraint::point::PointRow;
-use constraint::rotation::{RelativeRotation, same_polarity};
-use constraint::soft::limit_bias;
-use constraint::velocity::{InvMasses, Velocities, apply_axial, inv_masses_of, velocities_of};
-use math_functions::quat::{inv_mul_quat, mul_quat, rotate_vector};
-use math_functions::types::{Quat, Vec2, Vec3, nan};
+use constraint::kind::KindSolved;
+use constraint::point::{PointRow, point_bias, point_cdot, point_row};
+use constraint::rotation::{RelativeRotation, flipped_relative_rotation};
+use constraint::soft::LimitSoftness;
+use constraint::velocity::{InvMasses, Velocities, anchors_of, inv_masses_of, velocities_of};
+use math_functions::types::{Quat, nan};
 use records::body::BodyState;
 use records::joint::{JointBase, LimitAngles, RevoluteJoint};
 use solver::Softness;
 
-// What a solve leaves.
-#[derive(Clone, Copy)]
-pub struct RevoluteSolved {
-    pub joint: RevoluteJoint,
-    pub angles: LimitAngles,
-    pub velocities: Velocities,
-    pub report: Report,
-}
-
 // Where frame B stands relative to frame A.
-#[tactic(auto, unfolding(crate::specs::Revolute::joint_rotation, constraint::specs::Rotation::flipped_relative_rotation))]
+#[tactic(auto, unfolding(crate::specs::Revolute::joint_rotation))]
 fn joint_rotation(joint: RevoluteJoint, state_a: BodyState, state_b: BodyState) -> RelativeRotation
     ensures { result ≡ D.joint_rotation joint state_a state_b }
 {
-    let quat_a = mul_quat(state_a.delta_rotation, joint.frame_a.q);
-    let quat_b = same_polarity(quat_a, mul_quat(state_b.delta_rotation, joint.frame_b.q));
-    let rel_q = inv_mul_quat(quat_a, quat_b);
-    RelativeRotation { quat_a, rel_q }
+    flipped_relative_rotation(
+        state_a.delta_rotation,
+        joint.frame_a.q,
+        state_b.delta_rotation,
+        joint.frame_b.q,
+    )
+}
+
+// The rotation axis, about which the spring, the motor and the limit work.
+fn axis_of(joint: RevoluteJoint) -> RowAxis
+    ensures { result ≡ Angular.row_axis joint.rotation_axis_z joint.axial_mass }
+{
+    row_axis(joint.rotation_axis_z, joint.axial_mass)
 }
 
 // The spring row at the fields of the joint.
@@ -45,7 +47,7 @@ fn solve_spring(
     rel_q: Quat,
     m: InvMasses,
     v: Velocities,
-) -> AxialRow
+) -> Row<f32>
     ensures { result ≡ D.solve_spring fixed_rotation joint rel_q m v }
 {
     spring_row(
@@ -53,8 +55,7 @@ fn solve_spring(
         rel_q,
         joint.target_angle,
         joint.spring_softness,
-        joint.axial_mass,
-        joint.rotation_axis_z,
+        axis_of(joint),
         joint.spring_impulse,
         m,
         v,
@@ -69,7 +70,7 @@ fn solve_motor(
     h: f32,
     m: InvMasses,
     v: Velocities,
-) -> AxialRow
+) -> Row<f32>
     ensures { result ≡ D.solve_motor fixed_rotation joint h m v }
 {
     motor_row(
@@ -77,51 +78,42 @@ fn solve_motor(
         joint.motor_speed,
         joint.max_motor_torque,
         h,
-        joint.axial_mass,
-        joint.rotation_axis_z,
+        axis_of(joint),
         joint.motor_impulse,
         m,
         v,
     )
 }
 
+// What the rows of the limit are worked with, at a twist angle.
+fn twist_limit(joint: RevoluteJoint, angle: f32) -> TwistLimit
+    ensures { result ≡ D.twist_limit joint angle }
+{
+    let about = axis_of(joint);
+    TwistLimit {
+        angle,
+        lower_angle: joint.lower_angle,
+        upper_angle: joint.upper_angle,
+        about,
+        lower_impulse: joint.lower_impulse,
+        upper_impulse: joint.upper_impulse,
+    }
+}
+
 // The two limit rows at the fields of the joint.
+#[tactic(auto, unfolding(crate::specs::Revolute::solve_limits))]
 fn solve_limits(
     fixed_rotation: bool,
-    softness: Softness,
     joint: RevoluteJoint,
     angle: f32,
-    inv_h: f32,
-    use_bias: bool,
+    soft: LimitSoftness,
     m: InvMasses,
     v: Velocities,
 ) -> LimitRows
-    ensures { result ≡ D.solve_limits fixed_rotation softness joint angle inv_h use_bias m v }
+    ensures { result ≡ D.solve_limits fixed_rotation soft.softness joint angle soft.inv_h soft.use_bias m v }
 {
-    if !is_worked(joint.enable_limit, fixed_rotation) {
-        return LimitRows {
-            lower_impulse: joint.lower_impulse,
-            upper_impulse: joint.upper_impulse,
-            velocities: v,
-        };
-    }
-    let mass = joint.axial_mass;
-    let axis = joint.rotation_axis_z;
-    let lower_bias = limit_bias(angle - joint.lower_angle, softness, inv_h, use_bias);
-    let old_impulse = joint.lower_impulse;
-    let sum = lower_limit_sum(lower_bias, mass, axis, old_impulse, v);
-    // A limit that does not push is passed by a branch, which the processor predicts, so that what
-    // follows need not wait for the sum.
-    if sum > 0.0 {
-        let v = apply_axial(m, sum - old_impulse, axis, v);
-        let upper_bias = limit_bias(joint.upper_angle - angle, softness, inv_h, use_bias);
-        let upper = upper_limit_row(upper_bias, mass, axis, joint.upper_impulse, m, v);
-        return limit_rows(sum, upper);
-    }
-    let v = apply_axial(m, 0.0 - old_impulse, axis, v);
-    let upper_bias = limit_bias(joint.upper_angle - angle, softness, inv_h, use_bias);
-    let upper = upper_limit_row(upper_bias, mass, axis, joint.upper_impulse, m, v);
-    limit_rows(0.0, upper)
+    let worked = is_worked(joint.enable_limit, fixed_rotation);
+    twist_limit_rows(worked, twist_limit(joint, angle), soft, m, v)
 }
 
 // The perpendicular row at the fields of the joint. It has no switch.
@@ -137,76 +129,46 @@ fn solve_perp(
 ) -> PerpRow
     ensures { result ≡ D.solve_perp fixed_rotation softness joint rotation use_bias m v }
 {
+    let x = joint.perp_axis_x;
+    let y = joint.perp_axis_y;
     perp_row(
         !fixed_rotation,
         rotation,
         softness,
         use_bias,
-        joint.perp_axis_x,
-        joint.perp_axis_y,
+        PerpAxes { x, y },
         joint.perp_impulse,
         m,
         v,
     )
 }
 
-// The point row at the fields of the joint and the states.
-#[tactic(auto, unfolding(crate::specs::Revolute::solve_point))]
-fn solve_point(
-    softness: Softness,
-    joint: RevoluteJoint,
-    state_a: BodyState,
-    state_b: BodyState,
-    use_bias: bool,
-    m: InvMasses,
-    v: Velocities,
-) -> PointRow
-    ensures { result ≡ D.solve_point softness joint state_a state_b use_bias m v }
-{
-    let r_a = rotate_vector(state_a.delta_rotation, joint.frame_a.p);
-    let r_b = rotate_vector(state_b.delta_rotation, joint.frame_b.p);
-    point_row(
-        use_bias,
-        softness,
-        r_a,
-        r_b,
-        state_a.delta_position,
-        state_b.delta_position,
-        joint.delta_center,
-        joint.linear_impulse,
-        m,
-        v,
-    )
-}
-
-// The joint with other impulses and other perpendicular axes.
+// The joint with the impulses and the perpendicular axes that its rows leave.
 fn with_impulses(
     mut joint: RevoluteJoint,
-    linear_impulse: Vec3,
-    perp_impulse: Vec2,
-    spring_impulse: f32,
-    motor_impulse: f32,
-    lower_impulse: f32,
-    upper_impulse: f32,
-    perp_axis_x: Vec3,
-    perp_axis_y: Vec3,
+    point: PointRow,
+    perp: PerpRow,
+    spring: Row<f32>,
+    motor: Row<f32>,
+    limits: LimitRows,
 ) -> RevoluteJoint
-    ensures { result ≡ D.with_impulses joint linear_impulse perp_impulse spring_impulse motor_impulse lower_impulse upper_impulse
-        perp_axis_x perp_axis_y }
+    ensures { result ≡ D.with_impulses joint point.impulse perp.perp_impulse spring.impulse motor.impulse limits.lower_impulse limits.upper_impulse
+        perp.axes.x perp.axes.y }
 {
-    joint.linear_impulse = linear_impulse;
-    joint.perp_impulse = perp_impulse;
-    joint.spring_impulse = spring_impulse;
-    joint.motor_impulse = motor_impulse;
-    joint.lower_impulse = lower_impulse;
-    joint.upper_impulse = upper_impulse;
-    joint.perp_axis_x = perp_axis_x;
-    joint.perp_axis_y = perp_axis_y;
+    joint.linear_impulse = point.impulse;
+    joint.perp_impulse = perp.perp_impulse;
+    joint.spring_impulse = spring.impulse;
+    joint.motor_impulse = motor.impulse;
+    joint.lower_impulse = limits.lower_impulse;
+    joint.upper_impulse = limits.upper_impulse;
+    joint.perp_axis_x = perp.axes.x;
+    joint.perp_axis_y = perp.axes.y;
     joint
 }
 
-// The rows in order, each on the velocities that the row before it left.
-#[tactic(auto, unfolding(crate::specs::Revolute::solve_revolute))]
+// The rows in order, each on the velocities that the row before it left. The anchors and the point row's
+// bias wait for no velocity: they are computed a row before that row.
+#[tactic(auto, using(crate::proofs::Point::point_row_is), unfolding(crate::specs::Revolute::solve_revolute, crate::specs::Revolute::solve_point))]
 pub fn solve_revolute(
     base: JointBase,
     mut joint: RevoluteJoint,
@@ -215,11 +177,11 @@ pub fn solve_revolute(
     state_a: BodyState,
     state_b: BodyState,
     use_bias: bool,
-) -> RevoluteSolved
+) -> KindSolved<RevoluteJoint>
     ensures { result ≡ D.solve_revolute base joint h inv_h state_a state_b use_bias }
 {
     let fixed = base.fixed_rotation;
-    let soft = base.constraint_softness;
+    let s = base.constraint_softness;
     let m = inv_masses_of(base);
     let v = velocities_of(state_a, state_b);
     let turn = joint_rotation(joint, state_a, state_b);
@@ -227,20 +189,19 @@ pub fn solve_revolute(
     let motor = solve_motor(fixed, joint, h, m, spring.velocities);
     let v = motor.velocities;
     let twist = twist_angle_if(is_worked(joint.enable_limit, fixed), turn.rel_q);
-    let limits = solve_limits(fixed, soft, joint, twist, inv_h, use_bias, m, v);
-    let perp = solve_perp(fixed, soft, joint, turn, use_bias, m, limits.velocities);
-    let point = solve_point(soft, joint, state_a, state_b, use_bias, m, perp.velocities);
-    joint = with_impulses(
-        joint,
-        point.impulse,
-        perp.perp_impulse,
-        spring.impulse,
-        motor.impulse,
-        limits.lower_impulse,
-        limits.upper_impulse,
-        perp.perp_axis_x,
-        perp.perp_axis_y,
-    );
+    let soft = LimitSoftness {
+        softness: s,
+        inv_h,
+        use_bias,
+    };
+    let limits = solve_limits(fixed, joint, twist, soft, m, v);
+    let anchors = anchors_of(joint.frame_a, joint.frame_b, state_a, state_b);
+    let bias = point_bias(use_bias, s, anchors, joint.delta_center, state_a, state_b);
+    let perp = solve_perp(fixed, s, joint, turn, use_bias, m, limits.velocities);
+    let v = perp.velocities;
+    let cdot = point_cdot(anchors, v);
+    let point = point_row(bias, cdot, anchors, joint.linear_impulse, m, v);
+    joint = with_impulses(joint, point, perp, spring, motor, limits);
     let angles = LimitAngles {
         twist,
         swing: nan(),
@@ -250,7 +211,7 @@ pub fn solve_revolute(
         perp_mark: perp.mark,
         point_mark: Some(point.mark),
     };
-    RevoluteSolved {
+    KindSolved {
         joint,
         angles,
         velocities,

@@ -2,8 +2,8 @@
 ghost use Rattle.std.specs.Prelude.{◌≡◌};
 ghost use Rattle.revolute.specs.Revolute as D;
 
-use constraint::velocity::{Velocities, apply_warm, inv_masses_of, velocities_of};
-use math_functions::quat::rotate_vector;
+use crate::prepare::PerpAxes;
+use constraint::velocity::{Velocities, anchors_of, apply_warm, inv_masses_of, velocities_of};
 use math_functions::types::{Vec2, Vec3};
 use math_functions::vector::{add, mul_add, mul_sv};
 use records::body::BodyState;
@@ -11,10 +11,10 @@ use records::joint::{JointBase, RevoluteJoint};
 
 // The angular impulse of an impulse about the two perpendicular axes.
 #[tactic(auto, unfolding(crate::specs::Revolute::perp_angular_impulse))]
-pub fn perp_angular_impulse(impulse: Vec2, axis_x: Vec3, axis_y: Vec3) -> Vec3
-    ensures { result ≡ D.perp_angular_impulse impulse axis_x axis_y }
+pub fn perp_angular_impulse(impulse: Vec2, axes: PerpAxes) -> Vec3
+    ensures { result ≡ D.perp_angular_impulse impulse axes.x axes.y }
 {
-    add(mul_sv(impulse.x, axis_x), mul_sv(impulse.y, axis_y))
+    add(mul_sv(impulse.x, axes.x), mul_sv(impulse.y, axes.y))
 }
 
 // The angular impulse of all rows but the point row.
@@ -24,11 +24,9 @@ fn warm_angular_impulse(joint: RevoluteJoint) -> Vec3
 {
     let axial_impulse = joint.spring_impulse + joint.motor_impulse + joint.lower_impulse
         - joint.upper_impulse;
-    let angular_impulse = perp_angular_impulse(
-        joint.perp_impulse,
-        joint.perp_axis_x,
-        joint.perp_axis_y,
-    );
+    let x = joint.perp_axis_x;
+    let y = joint.perp_axis_y;
+    let angular_impulse = perp_angular_impulse(joint.perp_impulse, PerpAxes { x, y });
     mul_add(angular_impulse, axial_impulse, joint.rotation_axis_z)
 }
 
@@ -44,8 +42,7 @@ pub fn warm_start_revolute(
 {
     let m = inv_masses_of(base);
     let v = velocities_of(state_a, state_b);
-    let r_a = rotate_vector(state_a.delta_rotation, joint.frame_a.p);
-    let r_b = rotate_vector(state_b.delta_rotation, joint.frame_b.p);
+    let anchors = anchors_of(joint.frame_a, joint.frame_b, state_a, state_b);
     let angular_impulse = warm_angular_impulse(joint);
-    apply_warm(m, r_a, r_b, joint.linear_impulse, angular_impulse, v)
+    apply_warm(m, anchors, joint.linear_impulse, angular_impulse, v)
 }

@@ -61,10 +61,10 @@ ends : (end_x 0x1000 first_then_second 0 ≡ two) × (end_x 0x1000 second_then_f
 unfolding chain plain_run verdict early_cause cause step store is_still same_velocities Body.is_dynamic Body.store_velocities
     Stage.stage_joint Stage.warm_start_as Stage.solve_as
     Weld.solve_weld_joint Weld.solve_weld Weld.joint_rotation Weld.solve_angular Weld.weld_angular_row Weld.solve_bias Weld.solve_point
-    Weld.point_row Weld.is_soft
-    Velocity.velocities_of Velocity.inv_masses_of Velocity.apply_point Soft.soft_impulse3 Soft.soft_bias3
+    Weld.is_soft
+    Velocity.velocities_of Velocity.inv_masses_of Velocity.apply_point Soft.soft_impulse3 Soft.soft_bias_of
     Rotation.flipped_relative_rotation Rotation.relative_rotation Rotation.same_polarity Angular.is_worked
-    Point.point_bias Point.point_mass Point.point_cdot_grouped Scalar.abs_float
+    Point.point_bias Point.point_mass Point.point_cdot_grouped Point.point_row_at Scalar.abs_float
     Vector.add Vector.sub Vector.neg Vector.dot Vector.mul_add Vector.mul_sub Vector.mul_sv Vector.cross
     Quat.rotate_vector Quat.mul_quat Quat.inv_mul_quat Quat.dot_quat Quat.negate_quat
     Matrix.det Matrix.mul_mv Matrix.negate_mat3 Matrix.add_mm Matrix.mul_mm Matrix.solve3 Matrix.skew

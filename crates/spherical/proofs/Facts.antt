@@ -20,7 +20,7 @@ use Rattle.records.specs.declared.joint.SphericalJoint.{SphericalJoint}
 use Rattle.records.specs.Spherical.{with_indices}
 use Rattle.constraint.specs.declared.velocity.Velocities.{Velocities}
 use Rattle.constraint.specs.declared.velocity.InvMasses.{InvMasses}
-use Rattle.constraint.specs.declared.angular.AxialRow.{AxialRow}
+use Rattle.constraint.specs.declared.angular.Row.{Row}
 use Rattle.constraint.specs.Answer.{PreparedAnswer}
 use Rattle.constraint.specs.Answer.{WarmStartedAnswer}
 use Rattle.constraint.specs.Answer.{SolvedAnswer}
@@ -112,7 +112,7 @@ module _ (fixed_rotation : Bool) (s : Softness) (j : SphericalJoint) (rel_q : Qu
   unfolding solve_cone cone_row swing_angle_if
   cone_at_swing = go (is_worked j.enable_cone_limit fixed_rotation)
     where
-      row : Bool → Float → AxialRow
+      row : Bool → Float → Row Float
       row worked angle = cone_row worked angle j.cone_angle s inv_h use_bias j.swing_mass j.swing_axis j.swing_impulse m v
 
       go : (worked : Bool) → row worked (swing_angle_if worked rel_q) ≡ row worked (get_swing_angle rel_q)

@@ -18,12 +18,13 @@ use Rattle.records.specs.declared.joint.SphericalJoint.{SphericalJoint}
 use Rattle.constraint.specs.Prepare.{inertia_det, prepare_base}
 use Rattle.constraint.specs.Answer.{report}
 use Rattle.constraint.specs.Claims.{point_matrix}
-use Rattle.spherical.specs.Spherical.{prepare_rotation_mass, rotation_mass_mark, keep_impulses, prepare_spherical, point_row, solve_point, solve_spherical}
+use Rattle.constraint.specs.Point.{point_row_at}
+use Rattle.spherical.specs.Spherical.{prepare_rotation_mass, rotation_mass_mark, keep_impulses, prepare_spherical, solve_point, solve_spherical}
 
 pub solve_marks : (base : JointBase) (j : SphericalJoint) (state_a state_b : BodyState) (h inv_h : Float) (use_bias : Bool) →
     (solve_spherical base j h inv_h state_a state_b use_bias).report
     ≡ report no_mark (Some (solve3_mark (point_matrix base j.frame_a j.frame_b state_a state_b)))
-unfolding solve_spherical solve_point point_row
+unfolding solve_spherical solve_point point_row_at
 solve_marks base j state_a state_b h inv_h use_bias = refl
 
 -- where rotation is fixed the mass is zeros too, and has no mark

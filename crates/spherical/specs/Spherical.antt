@@ -8,9 +8,9 @@ use Rattle.math_functions.specs.declared.mark.Mark.{Mark}
 use Rattle.math_functions.specs.Float.{◌⊕◌, ◌⊖◌, ◌⊗◌, ◌⊘◌, gt, zero}
 use Rattle.math_functions.specs.Types.{vec3_zero, vec3_axis_z, mat3_zero}
 use Rattle.math_functions.specs.Vector.{add, sub, neg, length, normalize, mul_add, mul_sub, mul_sv, cross}
-use Rattle.math_functions.specs.Quat.{rotate_vector, inv_mul_quat, delta_quat_to_rotation}
+use Rattle.math_functions.specs.Quat.{rotate_vector, inv_mul_quat}
 use Rattle.math_functions.specs.Mark.{no_mark}
-use Rattle.math_functions.specs.Matrix.{add_mm, mul_mv, invert_matrix, invert_matrix_mark, solve3, solve3_mark}
+use Rattle.math_functions.specs.Matrix.{add_mm, mul_mv, invert_matrix, invert_matrix_mark}
 use Rattle.math_functions.specs.Transform.{sub_pos}
 use Rattle.solver.specs.declared.Softness.{Softness}
 use Rattle.solver.specs.declared.StepContext.{StepContext}
@@ -27,25 +27,25 @@ use Rattle.records.specs.Spherical.{Made, built, written_of, settings_of, with_w
 use Rattle.constraint.specs.declared.velocity.Velocities.{Velocities}
 use Rattle.constraint.specs.declared.velocity.InvMasses.{InvMasses}
 use Rattle.constraint.specs.declared.rotation.RelativeRotation.{RelativeRotation}
-use Rattle.constraint.specs.declared.soft.SoftBias3.{SoftBias3}
-use Rattle.constraint.specs.declared.angular.AxialRow.{AxialRow}
+use Rattle.constraint.specs.declared.soft.SoftBias.{SoftBias}
+use Rattle.constraint.specs.declared.angular.Row.{Row}
 use Rattle.constraint.specs.declared.angular.LimitRows.{LimitRows}
-use Rattle.constraint.specs.declared.angular.Row3.{Row3}
+use Rattle.constraint.specs.declared.angular.RowAxis.{RowAxis}
+use Rattle.constraint.specs.declared.angular.TwistLimit.{TwistLimit}
 use Rattle.constraint.specs.declared.point.PointRow.{PointRow}
+use Rattle.constraint.specs.declared.kind.KindPrepared.{KindPrepared}
+use Rattle.constraint.specs.declared.kind.KindSolved.{KindSolved}
 use Rattle.constraint.specs.declared.answer.Report.{Report}
 use Rattle.constraint.specs.Answer.{PreparedAnswer}
 use Rattle.constraint.specs.Answer.{WarmStartedAnswer}
 use Rattle.constraint.specs.Answer.{SolvedAnswer}
-use Rattle.constraint.specs.Velocity.{velocities_of, inv_masses_of, apply_angular, apply_point, apply_warm}
-use Rattle.constraint.specs.Soft.{soft_bias3, limit_bias, soft_impulse3}
-use Rattle.constraint.specs.Rotation.{relative_rotation}
-use Rattle.constraint.specs.Angular.{axial_row, row3, is_worked, twist_angle_if, swing_angle_if, upper_limit_row, angular_row, TwistLimit, twist_limit_rows}
-use Rattle.constraint.specs.Point.{point_result, point_bias, point_mass, point_cdot}
+use Rattle.constraint.specs.Velocity.{velocities_of, inv_masses_of, apply_angular, apply_warm}
+use Rattle.constraint.specs.Soft.{soft_bias3, limit_bias}
+use Rattle.constraint.specs.Rotation.{relative_rotation, rotation_error}
+use Rattle.constraint.specs.Angular.{row, row_axis, is_worked, twist_angle_if, swing_angle_if, upper_limit_row, angular_row, twist_limit_rows}
+use Rattle.constraint.specs.Point.{point_bias, point_cdot, point_row_at}
 use Rattle.constraint.specs.Prepare.{prepare_base, awake_index, prepare_frame, axial_mass}
 use Rattle.constraint.specs.Answer.{prepared, not_prepared, warm_started, not_warm_started, report, solved, not_solved}
-use Rattle.spherical.specs.declared.prepare.LimitAxis.{LimitAxis}
-use Rattle.spherical.specs.declared.prepare.SphericalPrepared.{SphericalPrepared}
-use Rattle.spherical.specs.declared.solve.SphericalSolved.{SphericalSolved}
 
 -- the joint with other impulses, and all else as it was: linear, spring, motor, lower twist, upper twist, swing
 abbrev pub with_impulses : SphericalJoint → Vec3 → Vec3 → Vec3 → Float → Float → Float → SphericalJoint
@@ -62,14 +62,11 @@ with_impulses j linear spring motor lower_twist upper_twist swing =
 
 -- ==== Prepare
 
-abbrev pub limit_axis : Vec3 → Float → LimitAxis
-limit_axis axis mass = record { axis = axis; mass = mass }
-
 -- swing values are stored only if the cone is on; older ones stay. The axis may be zero.
-unfoldable pub prepare_swing : SphericalJoint → Matrix3 → Vec3 → Vec3 → LimitAxis
+unfoldable pub prepare_swing : SphericalJoint → Matrix3 → Vec3 → Vec3 → RowAxis
 prepare_swing j inv_inertia_sum cone_axis twist_axis =
     let axis = normalize (cross cone_axis twist_axis) in
-    cond (not j.enable_cone_limit) (limit_axis j.swing_axis j.swing_mass) (limit_axis axis (axial_mass inv_inertia_sum axis))
+    cond (not j.enable_cone_limit) (row_axis j.swing_axis j.swing_mass) (row_axis axis (axial_mass inv_inertia_sum axis))
 
 unfoldable pub twist_jacobian : Quat → Quat → Vec3 → Vec3 → Vec3
 twist_jacobian quat_a quat_b cone_axis twist_axis =
@@ -83,10 +80,10 @@ twist_jacobian quat_a quat_b cone_axis twist_axis =
     mul_add cone_axis tan_theta_over2 perp_axis
 
 -- twist values likewise
-unfoldable pub prepare_twist : SphericalJoint → Matrix3 → Quat → Quat → Vec3 → Vec3 → LimitAxis
+unfoldable pub prepare_twist : SphericalJoint → Matrix3 → Quat → Quat → Vec3 → Vec3 → RowAxis
 prepare_twist j inv_inertia_sum quat_a quat_b cone_axis twist_axis =
     let jac = twist_jacobian quat_a quat_b cone_axis twist_axis in
-    cond (not j.enable_twist_limit) (limit_axis j.twist_jacobian j.twist_mass) (limit_axis jac (axial_mass inv_inertia_sum jac))
+    cond (not j.enable_twist_limit) (row_axis j.twist_jacobian j.twist_mass) (row_axis jac (axial_mass inv_inertia_sum jac))
 
 -- zero when rotation is fixed
 unfoldable pub prepare_rotation_mass : Bool → Matrix3 → Matrix3
@@ -100,11 +97,11 @@ rotation_mass_mark fixed_rotation inv_inertia_sum = cond (not fixed_rotation) (S
 unfoldable pub keep_impulses : SphericalJoint → Bool → SphericalJoint
 keep_impulses j enable_warm_starting = cond (not enable_warm_starting) (with_impulses j vec3_zero vec3_zero vec3_zero zero zero zero) j
 
-abbrev pub spherical_prepared : JointBase → SphericalJoint → Option Mark → SphericalPrepared
+abbrev pub spherical_prepared : JointBase → SphericalJoint → Option Mark → KindPrepared SphericalJoint
 spherical_prepared base joint mass_mark = record { base = base; joint = joint; mass_mark = mass_mark }
 
 -- document 01's prepare, where delta_center is the difference of the centres. The cone axis is the z-axis of frame A, the twist axis that of frame B
-unfoldable pub prepare_spherical : JointBase → SphericalJoint → Float → Bool → Vec3 → BodyRecord → BodyRecord → SphericalPrepared
+unfoldable pub prepare_spherical : JointBase → SphericalJoint → Float → Bool → Vec3 → BodyRecord → BodyRecord → KindPrepared SphericalJoint
 prepare_spherical base j h enable_warm_starting delta_center body_a body_b =
     let next = prepare_base base body_a body_b in
     let inv_inertia_sum = add_mm next.inv_i_a next.inv_i_b in
@@ -146,10 +143,10 @@ warm_start_spherical base j state_a state_b =
 -- Each takes the fields that it reads. The first parameter of a row that can be skipped says whether it is worked; if not, it leaves all as it was.
 
 -- Spring. The error is minus the rotation to the target, turned into the world; the softness is the spring's own, with or without bias.
-unfoldable pub spring_row : Bool → RelativeRotation → Quat → Softness → Matrix3 → Vec3 → InvMasses → Velocities → Row3
+unfoldable pub spring_row : Bool → RelativeRotation → Quat → Softness → Matrix3 → Vec3 → InvMasses → Velocities → Row Vec3
 spring_row worked rotation target_rotation spring_softness rotation_mass old_impulse m v =
-    let c = neg (rotate_vector rotation.quat_a (delta_quat_to_rotation rotation.rel_q target_rotation)) in
-    cond (not worked) (row3 old_impulse v) (angular_row (soft_bias3 spring_softness c) rotation_mass old_impulse m v)
+    let c = rotation_error rotation target_rotation in
+    cond (not worked) (row old_impulse v) (angular_row (soft_bias3 spring_softness c) rotation_mass old_impulse m v)
 
 -- the motor's impulse before it is scaled
 unfoldable pub motor_sum : Vec3 → Matrix3 → Vec3 → Velocities → Vec3
@@ -165,25 +162,20 @@ limit_length impulse max_impulse =
     cond (gt len max_impulse) (mul_sv (max_impulse ⊘ len) impulse) impulse
 
 -- Motor: its impulse is a vector, scaled to the length max_motor_torque × h where it is longer (revolute's is a number, clamped).
-unfoldable pub motor_row : Bool → Vec3 → Float → Float → Matrix3 → Vec3 → InvMasses → Velocities → Row3
+unfoldable pub motor_row : Bool → Vec3 → Float → Float → Matrix3 → Vec3 → InvMasses → Velocities → Row Vec3
 motor_row worked motor_velocity max_motor_torque h rotation_mass old_impulse m v =
     let impulse = limit_length (motor_sum motor_velocity rotation_mass old_impulse v) (max_motor_torque ⊗ h) in
-    cond (not worked) (row3 old_impulse v) (row3 impulse (apply_angular m (sub impulse old_impulse) v))
+    cond (not worked) (row old_impulse v) (row impulse (apply_angular m (sub impulse old_impulse) v))
 
 -- Cone: an upper limit, about the swing axis. The gap is the cone's angle less the swing angle.
-unfoldable pub cone_row : Bool → Float → Float → Softness → Float → Bool → Float → Vec3 → Float → InvMasses → Velocities → AxialRow
+unfoldable pub cone_row : Bool → Float → Float → Softness → Float → Bool → Float → Vec3 → Float → InvMasses → Velocities → Row Float
 cone_row worked swing_angle cone_angle s inv_h use_bias swing_mass swing_axis old_impulse m v =
     let c = cone_angle ⊖ swing_angle in
-    cond (not worked) (axial_row old_impulse v) (upper_limit_row (limit_bias c s inv_h use_bias) swing_mass swing_axis old_impulse m v)
+    cond (not worked) (row old_impulse v) (upper_limit_row (limit_bias c s inv_h use_bias) swing_mass swing_axis old_impulse m v)
 
 -- Point, with its bias (`point_bias`: softened where the call has bias); worked with fixed rotation too.
-unfoldable pub point_row : SoftBias3 → Vec3 → Vec3 → Vec3 → InvMasses → Velocities → PointRow
-point_row s r_a r_b old_impulse m v =
-    let cdot = point_cdot r_a r_b v in
-    let k = point_mass m r_a r_b in
-    let b = solve3 k (add cdot s.bias) in
-    let impulse = soft_impulse3 s b old_impulse in
-    point_result (add old_impulse impulse) (apply_point m r_a r_b impulse v) (solve3_mark k)
+abbrev pub point_row : SoftBias Vec3 → Vec3 → Vec3 → Vec3 → InvMasses → Velocities → PointRow
+point_row s r_a r_b old_impulse m v = point_row_at s (point_cdot r_a r_b v) r_a r_b old_impulse m v
 
 -- ==== Solve
 
@@ -193,12 +185,12 @@ joint_rotation j state_a state_b = relative_rotation state_a.delta_rotation j.fr
 
 -- The rows at the fields of the joint and the states. All but the point row are skipped when rotation is fixed.
 
-unfoldable pub solve_spring : Bool → SphericalJoint → RelativeRotation → InvMasses → Velocities → Row3
+unfoldable pub solve_spring : Bool → SphericalJoint → RelativeRotation → InvMasses → Velocities → Row Vec3
 solve_spring fixed_rotation j rotation m v =
     spring_row (is_worked j.enable_spring fixed_rotation) rotation j.target_rotation j.spring_softness j.rotation_mass
     j.spring_impulse m v
 
-unfoldable pub solve_motor : Bool → SphericalJoint → Float → InvMasses → Velocities → Row3
+unfoldable pub solve_motor : Bool → SphericalJoint → Float → InvMasses → Velocities → Row Vec3
 solve_motor fixed_rotation j h m v =
     motor_row (is_worked j.enable_motor fixed_rotation) j.motor_velocity j.max_motor_torque h j.rotation_mass j.motor_impulse m v
 
@@ -209,8 +201,7 @@ twist_limit j angle =
       angle = angle;
       lower_angle = j.lower_twist_angle;
       upper_angle = j.upper_twist_angle;
-      mass = j.twist_mass;
-      axis = j.twist_jacobian;
+      about = row_axis j.twist_jacobian j.twist_mass;
       lower_impulse = j.lower_twist_impulse;
       upper_impulse = j.upper_twist_impulse;
     }
@@ -219,13 +210,13 @@ unfoldable pub solve_limits : Bool → Softness → SphericalJoint → Float →
 solve_limits fixed_rotation softness j angle inv_h use_bias m v =
     twist_limit_rows (is_worked j.enable_twist_limit fixed_rotation) (twist_limit j angle) softness inv_h use_bias m v
 
-unfoldable pub solve_cone : Bool → Softness → SphericalJoint → Float → Float → Bool → InvMasses → Velocities → AxialRow
+unfoldable pub solve_cone : Bool → Softness → SphericalJoint → Float → Float → Bool → InvMasses → Velocities → Row Float
 solve_cone fixed_rotation softness j swing_angle inv_h use_bias m v =
     cone_row (is_worked j.enable_cone_limit fixed_rotation) swing_angle j.cone_angle softness inv_h use_bias j.swing_mass j.swing_axis
     j.swing_impulse m v
 
 -- the point row's bias, at the two anchors
-unfoldable pub solve_bias : Softness → SphericalJoint → Vec3 → Vec3 → BodyState → BodyState → Bool → SoftBias3
+unfoldable pub solve_bias : Softness → SphericalJoint → Vec3 → Vec3 → BodyState → BodyState → Bool → SoftBias Vec3
 solve_bias softness j r_a r_b state_a state_b use_bias =
     point_bias use_bias softness r_a r_b state_a.delta_position state_b.delta_position j.delta_center
 
@@ -235,12 +226,12 @@ solve_point softness j state_a state_b use_bias m v =
     let r_b = rotate_vector state_b.delta_rotation j.frame_b.p in
     point_row (solve_bias softness j r_a r_b state_a state_b use_bias) r_a r_b j.linear_impulse m v
 
-abbrev pub spherical_solved : SphericalJoint → LimitAngles → Velocities → Report → SphericalSolved
+abbrev pub spherical_solved : SphericalJoint → LimitAngles → Velocities → Report → KindSolved SphericalJoint
 spherical_solved joint angles velocities r = record { joint = joint; angles = angles; velocities = velocities; report = r }
 
 -- document 01's rows of a spherical solve, in order: spring, motor, lower and upper twist, cone, point. C-11: the angles of the twist limit's rows and of the
 -- cone's are stored. C-15: the mark of the point row is passed on; there is no perpendicular row
-unfoldable pub solve_spherical : JointBase → SphericalJoint → Float → Float → BodyState → BodyState → Bool → SphericalSolved
+unfoldable pub solve_spherical : JointBase → SphericalJoint → Float → Float → BodyState → BodyState → Bool → KindSolved SphericalJoint
 solve_spherical base j h inv_h state_a state_b use_bias =
     let m = inv_masses_of base in
     let fixed_rotation = base.fixed_rotation in

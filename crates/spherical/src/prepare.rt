@@ -2,6 +2,8 @@
 ghost use Rattle.std.specs.Prelude.{◌≡◌};
 ghost use Rattle.spherical.specs.Spherical as D;
 
+use constraint::angular::RowAxis;
+use constraint::kind::KindPrepared;
 use constraint::prepare::{awake_index, axial_mass, prepare_base, prepare_frame};
 use math_functions::mark::Mark;
 use math_functions::matrix::{add_mm, invert_matrix};
@@ -13,26 +15,11 @@ use records::joint::{JointBase, SphericalJoint};
 use solver::make_soft;
 use sqrt::sqrt;
 
-// What a prepare leaves.
-#[derive(Clone, Copy)]
-pub struct SphericalPrepared {
-    pub base: JointBase,
-    pub joint: SphericalJoint,
-    pub mass_mark: Option<Mark>,
-}
-
 // The rotation mass, and its mark where it is inverted.
 #[derive(Clone, Copy)]
 struct RotationMass {
     pub value: Matrix3,
     pub mark: Option<Mark>,
-}
-
-// The axis of a limit, and the effective mass about it.
-#[derive(Clone, Copy)]
-struct LimitAxis {
-    pub axis: Vec3,
-    pub mass: f32,
 }
 
 // The cone's axis. Where the cone is off the older one stays.
@@ -42,12 +29,12 @@ fn prepare_swing(
     inv_inertia_sum: Matrix3,
     cone_axis: Vec3,
     twist_axis: Vec3,
-) -> LimitAxis
+) -> RowAxis
     ensures { result ≡ D.prepare_swing joint inv_inertia_sum cone_axis twist_axis }
 {
     if !joint.enable_cone_limit {
         let axis = joint.swing_axis;
-        return LimitAxis {
+        return RowAxis {
             axis,
             mass: joint.swing_mass,
         };
@@ -55,7 +42,7 @@ fn prepare_swing(
     // Swing axis may be zero
     let axis = normalize(cross(cone_axis, twist_axis));
     let mass = axial_mass(inv_inertia_sum, axis);
-    LimitAxis { axis, mass }
+    RowAxis { axis, mass }
 }
 
 #[tactic(auto, unfolding(crate::specs::Spherical::twist_jacobian))]
@@ -81,19 +68,19 @@ fn prepare_twist(
     quat_b: Quat,
     cone_axis: Vec3,
     twist_axis: Vec3,
-) -> LimitAxis
+) -> RowAxis
     ensures { result ≡ D.prepare_twist joint inv_inertia_sum quat_a quat_b cone_axis twist_axis }
 {
     if !joint.enable_twist_limit {
         let axis = joint.twist_jacobian;
-        return LimitAxis {
+        return RowAxis {
             axis,
             mass: joint.twist_mass,
         };
     }
     let axis = twist_jacobian(quat_a, quat_b, cone_axis, twist_axis);
     let mass = axial_mass(inv_inertia_sum, axis);
-    LimitAxis { axis, mass }
+    RowAxis { axis, mass }
 }
 
 // The rotation mass and its mark: it is not inverted where rotation is fixed.
@@ -115,7 +102,8 @@ fn prepare_rotation_mass(fixed_rotation: bool, inv_inertia_sum: Matrix3) -> Rota
     }
 }
 
-// The joint with its impulses, which are cleared if warm starting is off.
+// The joint with its impulses, which are cleared if warm starting is off. Each kind has its own of
+// these: they have the test alike, and not the impulses.
 #[tactic(auto, unfolding(crate::specs::Spherical::keep_impulses))]
 fn keep_impulses(mut joint: SphericalJoint, enable_warm_starting: bool) -> SphericalJoint
     ensures { result ≡ D.keep_impulses joint enable_warm_starting }
@@ -142,7 +130,7 @@ pub fn prepare_spherical(
     delta_center: Vec3,
     body_a: BodyRecord,
     body_b: BodyRecord,
-) -> SphericalPrepared
+) -> KindPrepared<SphericalJoint>
     ensures { result ≡ D.prepare_spherical base joint h enable_warm_starting delta_center body_a body_b }
 {
     let frame_a = prepare_frame(body_a, base.local_frame_a);
@@ -170,7 +158,7 @@ pub fn prepare_spherical(
     joint.rotation_mass = rotation_mass;
     joint.spring_softness = make_soft(joint.hertz, joint.damping_ratio, h);
     joint = keep_impulses(joint, enable_warm_starting);
-    SphericalPrepared {
+    KindPrepared {
         base,
         joint,
         mass_mark,

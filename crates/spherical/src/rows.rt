@@ -1,16 +1,14 @@
 // The rows of a spherical joint's solve. A row that is not worked leaves its impulse and the
-// velocities as they were.
+// velocities as they were. The twist limit's rows and the point row are those of every kind.
 ghost use Rattle.std.specs.Prelude.{◌≡◌};
 ghost use Rattle.spherical.specs.Spherical as D;
 ghost use Rattle.spherical.specs.Steps as Steps;
 
-use constraint::angular::{AxialRow, Row3, angular_row, upper_limit_sum, upper_row_to};
-use constraint::point::{PointRow, add_mass, point_cdot};
-use constraint::rotation::RelativeRotation;
-use constraint::soft::{SoftBias3, limit_bias, soft_bias3, soft_impulse3};
-use constraint::velocity::{InvMasses, Velocities, apply_angular, apply_point};
-use math_functions::matrix::{add_mm, mul_mm, mul_mv, negate_mat3, skew, solve3};
-use math_functions::quat::{delta_quat_to_rotation, rotate_vector};
+use constraint::angular::{Row, RowAxis, angular_row, upper_limit_sum, upper_row_to};
+use constraint::rotation::{RelativeRotation, rotation_error};
+use constraint::soft::{LimitSoftness, limit_bias, soft_bias};
+use constraint::velocity::{InvMasses, Velocities, apply_angular};
+use math_functions::matrix::mul_mv;
 use math_functions::types::{Matrix3, Quat, Vec3};
 use math_functions::vector::{add, length, mul_sv, neg, sub};
 use solver::Softness;
@@ -26,19 +24,17 @@ pub fn spring_row(
     old_impulse: Vec3,
     m: InvMasses,
     v: Velocities,
-) -> Row3
+) -> Row<Vec3>
     ensures { result ≡ D.spring_row worked rotation target_rotation softness mass old_impulse m v }
 {
     if !worked {
-        return Row3 {
+        return Row {
             impulse: old_impulse,
             velocities: v,
         };
     }
-    // Rotation constraint error
-    let delta_rotation = delta_quat_to_rotation(rotation.rel_q, target_rotation);
-    let c = neg(rotate_vector(rotation.quat_a, delta_rotation));
-    angular_row(soft_bias3(softness, c), mass, old_impulse, m, v)
+    let c = rotation_error(rotation, target_rotation);
+    angular_row(soft_bias(softness, c), mass, old_impulse, m, v)
 }
 
 // The motor's impulse before it is scaled.
@@ -82,11 +78,11 @@ pub fn motor_row(
     old_impulse: Vec3,
     m: InvMasses,
     v: Velocities,
-) -> Row3
+) -> Row<Vec3>
     ensures { result ≡ D.motor_row worked motor_velocity max_motor_torque h mass old_impulse m v }
 {
     if !worked {
-        return Row3 {
+        return Row {
             impulse: old_impulse,
             velocities: v,
         };
@@ -94,7 +90,7 @@ pub fn motor_row(
     let sum = motor_sum(motor_velocity, mass, old_impulse, v);
     let impulse = limit_length(sum, max_motor_torque * h);
     let velocities = apply_angular(m, sub(impulse, old_impulse), v);
-    Row3 {
+    Row {
         impulse,
         velocities,
     }
@@ -106,59 +102,26 @@ pub fn cone_row(
     worked: bool,
     swing_angle: f32,
     cone_angle: f32,
-    softness: Softness,
-    inv_h: f32,
-    use_bias: bool,
-    mass: f32,
-    axis: Vec3,
+    soft: LimitSoftness,
+    about: RowAxis,
     old_impulse: f32,
     m: InvMasses,
     v: Velocities,
-) -> AxialRow
-    ensures { result ≡ D.cone_row worked swing_angle cone_angle softness inv_h use_bias mass axis old_impulse m v }
+) -> Row<f32>
+    ensures { result ≡ D.cone_row worked swing_angle cone_angle soft.softness soft.inv_h soft.use_bias about.mass about.axis old_impulse m v }
 {
     if !worked {
-        return AxialRow {
+        return Row {
             impulse: old_impulse,
             velocities: v,
         };
     }
     let c = cone_angle - swing_angle;
-    let s = limit_bias(c, softness, inv_h, use_bias);
-    let sum = upper_limit_sum(s, mass, axis, old_impulse, v);
+    let s = limit_bias(c, soft);
+    let sum = upper_limit_sum(s, about, old_impulse, v);
     // a branch, as in the twist rows
     if sum > 0.0 {
-        return upper_row_to(sum, old_impulse, axis, m, v);
+        return upper_row_to(sum, old_impulse, about.axis, m, v);
     }
-    upper_row_to(0.0, old_impulse, axis, m, v)
-}
-
-// The point row, with its bias s, holds the two anchors together.
-#[tactic(auto, unfolding(crate::specs::Spherical::point_row, constraint::specs::Point::point_mass))]
-pub fn point_row(
-    s: SoftBias3,
-    r_a: Vec3,
-    r_b: Vec3,
-    old_impulse: Vec3,
-    m: InvMasses,
-    v: Velocities,
-) -> PointRow
-    ensures { result ≡ D.point_row s r_a r_b old_impulse m v }
-{
-    let cdot = point_cdot(r_a, r_b, v);
-    let s_a = skew(r_a);
-    let s_b = skew(r_b);
-    let k_a = mul_mm(s_a, mul_mm(m.i_a, s_a));
-    let k_b = mul_mm(s_b, mul_mm(m.i_b, s_b));
-    let k = add_mass(negate_mat3(add_mm(k_a, k_b)), m.m_a + m.m_b);
-    let b = solve3(k, add(cdot, s.bias));
-    let delta_impulse = soft_impulse3(s, b.value, old_impulse);
-    let impulse = add(old_impulse, delta_impulse);
-    let velocities = apply_point(m, r_a, r_b, delta_impulse, v);
-    let mark = b.mark;
-    PointRow {
-        impulse,
-        velocities,
-        mark,
-    }
+    upper_row_to(0.0, old_impulse, about.axis, m, v)
 }

@@ -1,32 +1,21 @@
 // The solve of a spherical joint, which works the rows.
 ghost use Rattle.std.specs.Prelude.{◌≡◌};
 ghost use Rattle.spherical.specs.Spherical as D;
-ghost use Rattle.spherical.specs.Steps as Steps;
 
-use crate::rows::{cone_row, motor_row, point_row, spring_row};
+use crate::rows::{cone_row, motor_row, spring_row};
 use constraint::angular::{
-    AxialRow, LimitRows, Row3, is_worked, limit_rows, lower_limit_sum, swing_angle_if,
-    twist_angle_if, upper_limit_sum, upper_row_to,
+    LimitRows, Row, TwistLimit, is_worked, row_axis, swing_angle_if, twist_angle_if,
+    twist_limit_rows,
 };
 use constraint::answer::Report;
-use constraint::point::point_bias;
+use constraint::kind::KindSolved;
+use constraint::point::{point_bias, point_cdot, point_row};
 use constraint::rotation::{RelativeRotation, relative_rotation};
-use constraint::soft::{SoftBias3, limit_bias};
-use constraint::velocity::{InvMasses, Velocities, apply_axial, inv_masses_of, velocities_of};
-use math_functions::quat::rotate_vector;
+use constraint::soft::LimitSoftness;
+use constraint::velocity::{InvMasses, Velocities, anchors_of, inv_masses_of, velocities_of};
 use math_functions::types::Vec3;
 use records::body::BodyState;
 use records::joint::{JointBase, LimitAngles, SphericalJoint};
-use solver::Softness;
-
-// What a solve leaves.
-#[derive(Clone, Copy)]
-pub struct SphericalSolved {
-    pub joint: SphericalJoint,
-    pub angles: LimitAngles,
-    pub velocities: Velocities,
-    pub report: Report,
-}
 
 // Where frame B stands relative to frame A.
 #[tactic(auto, unfolding(crate::specs::Spherical::joint_rotation))]
@@ -49,7 +38,7 @@ fn solve_spring(
     rotation: RelativeRotation,
     m: InvMasses,
     v: Velocities,
-) -> Row3
+) -> Row<Vec3>
     ensures { result ≡ D.solve_spring fixed_rotation joint rotation m v }
 {
     spring_row(
@@ -72,7 +61,7 @@ fn solve_motor(
     h: f32,
     m: InvMasses,
     v: Velocities,
-) -> Row3
+) -> Row<Vec3>
     ensures { result ≡ D.solve_motor fixed_rotation joint h m v }
 {
     motor_row(
@@ -87,123 +76,65 @@ fn solve_motor(
     )
 }
 
-// The twist limit's rows, where they are worked. A limit that does not push is passed by a branch,
-// which the processor predicts, so that what follows need not wait for the sum.
-fn limit_rows_at(
-    softness: Softness,
-    joint: SphericalJoint,
-    angle: f32,
-    inv_h: f32,
-    use_bias: bool,
-    m: InvMasses,
-    v: Velocities,
-) -> LimitRows
-    ensures { result ≡ Steps.limit_rows_at softness joint angle inv_h use_bias m v }
+// What the rows of the twist limit are worked with, at a twist angle.
+fn twist_limit(joint: SphericalJoint, angle: f32) -> TwistLimit
+    ensures { result ≡ D.twist_limit joint angle }
 {
-    let mass = joint.twist_mass;
-    let axis = joint.twist_jacobian;
-    let old_lower = joint.lower_twist_impulse;
-    let old_upper = joint.upper_twist_impulse;
-    let lower_bias = limit_bias(angle - joint.lower_twist_angle, softness, inv_h, use_bias);
-    let lower = lower_limit_sum(lower_bias, mass, axis, old_lower, v);
-    if lower > 0.0 {
-        let v = apply_axial(m, lower - old_lower, axis, v);
-        let upper_bias = limit_bias(joint.upper_twist_angle - angle, softness, inv_h, use_bias);
-        let upper = upper_limit_sum(upper_bias, mass, axis, old_upper, v);
-        if upper > 0.0 {
-            return limit_rows(lower, upper_row_to(upper, old_upper, axis, m, v));
-        }
-        return limit_rows(lower, upper_row_to(0.0, old_upper, axis, m, v));
+    let about = row_axis(joint.twist_jacobian, joint.twist_mass);
+    TwistLimit {
+        angle,
+        lower_angle: joint.lower_twist_angle,
+        upper_angle: joint.upper_twist_angle,
+        about,
+        lower_impulse: joint.lower_twist_impulse,
+        upper_impulse: joint.upper_twist_impulse,
     }
-    let v = apply_axial(m, 0.0 - old_lower, axis, v);
-    let upper_bias = limit_bias(joint.upper_twist_angle - angle, softness, inv_h, use_bias);
-    let upper = upper_limit_sum(upper_bias, mass, axis, old_upper, v);
-    if upper > 0.0 {
-        return limit_rows(0.0, upper_row_to(upper, old_upper, axis, m, v));
-    }
-    limit_rows(0.0, upper_row_to(0.0, old_upper, axis, m, v))
 }
 
 // The two limit rows at the fields of the joint.
-#[tactic(auto, unfolding(crate::specs::Spherical::solve_limits, constraint::specs::Angular::twist_limit_rows, crate::specs::Steps::limit_rows_at))]
+#[tactic(auto, unfolding(crate::specs::Spherical::solve_limits))]
 fn solve_limits(
     fixed_rotation: bool,
-    softness: Softness,
     joint: SphericalJoint,
     angle: f32,
-    inv_h: f32,
-    use_bias: bool,
+    soft: LimitSoftness,
     m: InvMasses,
     v: Velocities,
 ) -> LimitRows
-    ensures { result ≡ D.solve_limits fixed_rotation softness joint angle inv_h use_bias m v }
+    ensures { result ≡ D.solve_limits fixed_rotation soft.softness joint angle soft.inv_h soft.use_bias m v }
 {
-    if !is_worked(joint.enable_twist_limit, fixed_rotation) {
-        return LimitRows {
-            lower_impulse: joint.lower_twist_impulse,
-            upper_impulse: joint.upper_twist_impulse,
-            velocities: v,
-        };
-    }
-    limit_rows_at(softness, joint, angle, inv_h, use_bias, m, v)
+    let worked = is_worked(joint.enable_twist_limit, fixed_rotation);
+    twist_limit_rows(worked, twist_limit(joint, angle), soft, m, v)
 }
 
 // The cone's row at the fields of the joint.
 #[tactic(auto, unfolding(crate::specs::Spherical::solve_cone))]
 fn solve_cone(
     fixed_rotation: bool,
-    softness: Softness,
     joint: SphericalJoint,
     swing_angle: f32,
-    inv_h: f32,
-    use_bias: bool,
+    soft: LimitSoftness,
     m: InvMasses,
     v: Velocities,
-) -> AxialRow
-    ensures { result ≡ D.solve_cone fixed_rotation softness joint swing_angle inv_h use_bias m v }
+) -> Row<f32>
+    ensures { result ≡ D.solve_cone fixed_rotation soft.softness joint swing_angle soft.inv_h soft.use_bias m v }
 {
+    let about = row_axis(joint.swing_axis, joint.swing_mass);
     cone_row(
         is_worked(joint.enable_cone_limit, fixed_rotation),
         swing_angle,
         joint.cone_angle,
-        softness,
-        inv_h,
-        use_bias,
-        joint.swing_mass,
-        joint.swing_axis,
+        soft,
+        about,
         joint.swing_impulse,
         m,
         v,
     )
 }
 
-// The bias of the point row at the fields of the joint and the states.
-#[tactic(auto, unfolding(crate::specs::Spherical::solve_bias))]
-fn solve_bias(
-    softness: Softness,
-    joint: SphericalJoint,
-    r_a: Vec3,
-    r_b: Vec3,
-    state_a: BodyState,
-    state_b: BodyState,
-    use_bias: bool,
-) -> SoftBias3
-    ensures { result ≡ D.solve_bias softness joint r_a r_b state_a state_b use_bias }
-{
-    point_bias(
-        use_bias,
-        softness,
-        r_a,
-        r_b,
-        state_a.delta_position,
-        state_b.delta_position,
-        joint.delta_center,
-    )
-}
-
 // What waits for no velocity (the cone's angle, the anchors and the point row's bias) is computed a
 // row before the row that needs it, so that the processor has it to do while rows wait for each other.
-#[tactic(auto, unfolding(crate::specs::Spherical::solve_spherical, crate::specs::Spherical::solve_point))]
+#[tactic(auto, unfolding(crate::specs::Spherical::solve_spherical, crate::specs::Spherical::solve_point, crate::specs::Spherical::solve_bias))]
 pub fn solve_spherical(
     base: JointBase,
     mut joint: SphericalJoint,
@@ -212,7 +143,7 @@ pub fn solve_spherical(
     state_a: BodyState,
     state_b: BodyState,
     use_bias: bool,
-) -> SphericalSolved
+) -> KindSolved<SphericalJoint>
     ensures { result ≡ D.solve_spherical base joint h inv_h state_a state_b use_bias }
 {
     let m = inv_masses_of(base);
@@ -224,21 +155,18 @@ pub fn solve_spherical(
     let motor = solve_motor(fixed, joint, h, m, spring.velocities);
     let twist = twist_angle_if(is_worked(joint.enable_twist_limit, fixed), rotation.rel_q);
     let swing = swing_angle_if(is_worked(joint.enable_cone_limit, fixed), rotation.rel_q);
-    let limits = solve_limits(fixed, s, joint, twist, inv_h, use_bias, m, motor.velocities);
-    let r_a = rotate_vector(state_a.delta_rotation, joint.frame_a.p);
-    let r_b = rotate_vector(state_b.delta_rotation, joint.frame_b.p);
-    let bias = solve_bias(s, joint, r_a, r_b, state_a, state_b, use_bias);
-    let cone = solve_cone(
-        fixed,
-        s,
-        joint,
-        swing,
+    let soft = LimitSoftness {
+        softness: s,
         inv_h,
         use_bias,
-        m,
-        limits.velocities,
-    );
-    let point = point_row(bias, r_a, r_b, joint.linear_impulse, m, cone.velocities);
+    };
+    let limits = solve_limits(fixed, joint, twist, soft, m, motor.velocities);
+    let anchors = anchors_of(joint.frame_a, joint.frame_b, state_a, state_b);
+    let bias = point_bias(use_bias, s, anchors, joint.delta_center, state_a, state_b);
+    let cone = solve_cone(fixed, joint, swing, soft, m, limits.velocities);
+    let v = cone.velocities;
+    let cdot = point_cdot(anchors, v);
+    let point = point_row(bias, cdot, anchors, joint.linear_impulse, m, v);
 
     let linear_impulse = point.impulse;
     let spring_impulse = spring.impulse;
@@ -254,7 +182,7 @@ pub fn solve_spherical(
     joint.lower_twist_impulse = limits.lower_impulse;
     joint.upper_twist_impulse = limits.upper_impulse;
     joint.swing_impulse = cone.impulse;
-    SphericalSolved {
+    KindSolved {
         joint,
         angles: LimitAngles { twist, swing },
         velocities,

@@ -2,8 +2,7 @@
 ghost use Rattle.std.specs.Prelude.{◌≡◌};
 ghost use Rattle.spherical.specs.Spherical as D;
 
-use constraint::velocity::{Velocities, apply_warm, inv_masses_of, velocities_of};
-use math_functions::quat::rotate_vector;
+use constraint::velocity::{Velocities, anchors_of, apply_warm, inv_masses_of, velocities_of};
 use math_functions::vector::{add, mul_add, mul_sub};
 use records::body::BodyState;
 use records::joint::{JointBase, SphericalJoint};
@@ -17,8 +16,7 @@ pub fn warm_start_spherical(
 ) -> Velocities
     ensures { result ≡ D.warm_start_spherical base joint state_a state_b }
 {
-    let r_a = rotate_vector(state_a.delta_rotation, joint.frame_a.p);
-    let r_b = rotate_vector(state_b.delta_rotation, joint.frame_b.p);
+    let anchors = anchors_of(joint.frame_a, joint.frame_b, state_a, state_b);
 
     let mut angular_impulse = add(joint.spring_impulse, joint.motor_impulse);
     angular_impulse = mul_sub(angular_impulse, joint.swing_impulse, joint.swing_axis);
@@ -30,5 +28,5 @@ pub fn warm_start_spherical(
 
     let m = inv_masses_of(base);
     let v = velocities_of(state_a, state_b);
-    apply_warm(m, r_a, r_b, joint.linear_impulse, angular_impulse, v)
+    apply_warm(m, anchors, joint.linear_impulse, angular_impulse, v)
 }

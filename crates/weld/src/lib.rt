@@ -47,7 +47,7 @@ pub fn prepare_weld_joint(
     );
     Prepared {
         joint: joint_sim(p.base, p.joint.into(), no_angles()),
-        mass_mark: Some(p.mass_mark),
+        mass_mark: p.mass_mark,
         refused: None,
     }
 }

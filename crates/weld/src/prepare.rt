@@ -2,21 +2,13 @@
 ghost use Rattle.std.specs.Prelude.{◌≡◌};
 ghost use Rattle.weld.specs.Weld as D;
 
+use constraint::kind::KindPrepared;
 use constraint::prepare::{awake_index, prepare_base, prepare_frame};
-use math_functions::mark::Mark;
 use math_functions::matrix::{add_mm, invert_matrix};
 use math_functions::types::{VEC3_ZERO, Vec3};
 use records::body::BodyRecord;
 use records::joint::{JointBase, WeldJoint};
 use solver::{Softness, make_soft};
-
-// What prepare leaves.
-#[derive(Clone, Copy)]
-pub struct WeldPrepared {
-    pub base: JointBase,
-    pub joint: WeldJoint,
-    pub mass_mark: Mark,
-}
 
 // The softness of a row: the joint's own where the row's hertz is zero.
 #[tactic(auto, unfolding(crate::specs::Weld::row_spring))]
@@ -30,7 +22,8 @@ fn row_spring(hertz: f32, damping_ratio: f32, h: f32, constraint_softness: Softn
     }
 }
 
-// The impulses stay only for a warm start.
+// The impulses stay only for a warm start. Each kind has its own of these: they have the test alike, and
+// not the impulses.
 #[tactic(auto, unfolding(crate::specs::Weld::keep_impulses))]
 fn keep_impulses(mut joint: WeldJoint, enable_warm_starting: bool) -> WeldJoint
     ensures { result ≡ D.keep_impulses joint enable_warm_starting }
@@ -54,7 +47,7 @@ pub fn prepare_weld(
     delta_center: Vec3,
     body_a: BodyRecord,
     body_b: BodyRecord,
-) -> WeldPrepared
+) -> KindPrepared<WeldJoint>
     ensures { result ≡ D.prepare_weld base joint h enable_warm_starting delta_center body_a body_b }
 {
     let softness = base.constraint_softness;
@@ -67,7 +60,7 @@ pub fn prepare_weld(
     joint.delta_center = delta_center;
     let mass = invert_matrix(inv_inertia_sum);
     let angular_mass = mass.value;
-    let mass_mark = mass.mark;
+    let mass_mark = Some(mass.mark);
     joint.angular_mass = angular_mass;
     joint.linear_spring = row_spring(joint.linear_hertz, joint.linear_damping_ratio, h, softness);
     joint.angular_spring = row_spring(
@@ -78,7 +71,7 @@ pub fn prepare_weld(
     );
     base = prepare_base(base, body_a, body_b);
     joint = keep_impulses(joint, enable_warm_starting);
-    WeldPrepared {
+    KindPrepared {
         base,
         joint,
         mass_mark,

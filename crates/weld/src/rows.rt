@@ -1,16 +1,12 @@
-// The rows of the weld joint: angular, then point.
+// The angular row of the weld joint, and which of its rows are soft. Its point row is that of every kind.
 ghost use Rattle.std.specs.Prelude.{◌≡◌};
 ghost use Rattle.weld.specs.Weld as D;
 
-use constraint::angular::{Row3, angular_row};
-use constraint::point::{PointRow, add_mass, point_cdot_grouped};
-use constraint::rotation::RelativeRotation;
-use constraint::soft::{RIGID3, SoftBias3, soft_bias3, soft_impulse3};
-use constraint::velocity::{InvMasses, Velocities, apply_point};
-use math_functions::matrix::{add_mm, mul_mm, negate_mat3, skew, solve3};
-use math_functions::quat::{delta_quat_to_rotation, rotate_vector};
+use constraint::angular::{Row, angular_row};
+use constraint::rotation::{RelativeRotation, rotation_error};
+use constraint::soft::{SoftBias, rigid, soft_bias};
+use constraint::velocity::{InvMasses, Velocities};
 use math_functions::types::{Matrix3, QUAT_IDENTITY, Vec3};
-use math_functions::vector::{add, neg};
 use solver::Softness;
 
 // A row whose hertz is above zero is soft also where the call has no bias.
@@ -23,16 +19,13 @@ pub fn is_soft(use_bias: bool, hertz: f32) -> bool
 
 // The bias of the angular row.
 #[tactic(auto, unfolding(crate::specs::Weld::angular_bias))]
-fn angular_bias(soft: bool, softness: Softness, rotation: RelativeRotation) -> SoftBias3
+fn angular_bias(soft: bool, softness: Softness, rotation: RelativeRotation) -> SoftBias<Vec3>
     ensures { result ≡ D.angular_bias soft softness rotation }
 {
     if soft {
-        let target_quat = QUAT_IDENTITY;
-        let delta_rotation = delta_quat_to_rotation(rotation.rel_q, target_quat);
-        let c = neg(rotate_vector(rotation.quat_a, delta_rotation));
-        soft_bias3(softness, c)
+        soft_bias(softness, rotation_error(rotation, QUAT_IDENTITY))
     } else {
-        RIGID3
+        rigid()
     }
 }
 
@@ -48,45 +41,15 @@ pub fn weld_angular_row(
     old_impulse: Vec3,
     m: InvMasses,
     v: Velocities,
-) -> Row3
+) -> Row<Vec3>
     ensures { result ≡ D.weld_angular_row worked rotation use_bias hertz softness mass old_impulse m v }
 {
     if !worked {
-        return Row3 {
+        return Row {
             impulse: old_impulse,
             velocities: v,
         };
     }
     let s = angular_bias(is_soft(use_bias, hertz), softness, rotation);
     angular_row(s, mass, old_impulse, m, v)
-}
-
-// The linear constraint with its bias s, where r_a and r_b reach from the centres to the anchors.
-#[tactic(auto, unfolding(crate::specs::Weld::point_row, constraint::specs::Point::point_mass))]
-pub fn point_row(
-    s: SoftBias3,
-    r_a: Vec3,
-    r_b: Vec3,
-    old_impulse: Vec3,
-    m: InvMasses,
-    v: Velocities,
-) -> PointRow
-    ensures { result ≡ D.point_row s r_a r_b old_impulse m v }
-{
-    let cdot = point_cdot_grouped(r_a, r_b, v);
-    let s_a = skew(r_a);
-    let s_b = skew(r_b);
-    let k_a = mul_mm(s_a, mul_mm(m.i_a, s_a));
-    let k_b = mul_mm(s_b, mul_mm(m.i_b, s_b));
-    let k = add_mass(negate_mat3(add_mm(k_a, k_b)), m.m_a + m.m_b);
-    let b = solve3(k, add(cdot, s.bias));
-    let delta_impulse = soft_impulse3(s, b.value, old_impulse);
-    let impulse = add(old_impulse, delta_impulse);
-    let velocities = apply_point(m, r_a, r_b, delta_impulse, v);
-    let mark = b.mark;
-    PointRow {
-        impulse,
-        velocities,
-        mark,
-    }
 }

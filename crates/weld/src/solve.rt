@@ -2,35 +2,28 @@
 ghost use Rattle.std.specs.Prelude.{◌≡◌};
 ghost use Rattle.weld.specs.Weld as D;
 
-use crate::rows::{is_soft, point_row, weld_angular_row};
-use constraint::angular::Row3;
+use crate::rows::{is_soft, weld_angular_row};
+use constraint::angular::Row;
 use constraint::answer::Report;
-use constraint::point::point_bias;
-use constraint::rotation::{RelativeRotation, same_polarity};
-use constraint::soft::SoftBias3;
-use constraint::velocity::{InvMasses, Velocities, inv_masses_of, velocities_of};
-use math_functions::quat::{inv_mul_quat, mul_quat, rotate_vector};
+use constraint::kind::KindSolved;
+use constraint::point::{point_bias, point_cdot_grouped, point_row};
+use constraint::rotation::{RelativeRotation, flipped_relative_rotation};
+use constraint::velocity::{InvMasses, Velocities, anchors_of, inv_masses_of, velocities_of};
 use math_functions::types::Vec3;
 use records::body::BodyState;
-use records::joint::{JointBase, WeldJoint};
-
-// What a solve leaves.
-#[derive(Clone, Copy)]
-pub struct WeldSolved {
-    pub joint: WeldJoint,
-    pub velocities: Velocities,
-    pub report: Report,
-}
+use records::joint::{JointBase, WeldJoint, no_angles};
 
 // Where frame B stands relative to frame A.
-#[tactic(auto, unfolding(crate::specs::Weld::joint_rotation, constraint::specs::Rotation::flipped_relative_rotation))]
+#[tactic(auto, unfolding(crate::specs::Weld::joint_rotation))]
 fn joint_rotation(joint: WeldJoint, state_a: BodyState, state_b: BodyState) -> RelativeRotation
     ensures { result ≡ D.joint_rotation joint state_a state_b }
 {
-    let quat_a = mul_quat(state_a.delta_rotation, joint.frame_a.q);
-    let quat_b = same_polarity(quat_a, mul_quat(state_b.delta_rotation, joint.frame_b.q));
-    let rel_q = inv_mul_quat(quat_a, quat_b);
-    RelativeRotation { quat_a, rel_q }
+    flipped_relative_rotation(
+        state_a.delta_rotation,
+        joint.frame_a.q,
+        state_b.delta_rotation,
+        joint.frame_b.q,
+    )
 }
 
 // The angular row at the fields of the joint.
@@ -42,7 +35,7 @@ fn solve_angular(
     use_bias: bool,
     m: InvMasses,
     v: Velocities,
-) -> Row3
+) -> Row<Vec3>
     ensures { result ≡ D.solve_angular fixed_rotation joint rotation use_bias m v }
 {
     weld_angular_row(
@@ -58,49 +51,29 @@ fn solve_angular(
     )
 }
 
-// The bias of the point row at the fields of the joint and the states.
-#[tactic(auto, unfolding(crate::specs::Weld::solve_bias))]
-fn solve_bias(
-    joint: WeldJoint,
-    r_a: Vec3,
-    r_b: Vec3,
-    state_a: BodyState,
-    state_b: BodyState,
-    use_bias: bool,
-) -> SoftBias3
-    ensures { result ≡ D.solve_bias joint r_a r_b state_a state_b use_bias }
-{
-    point_bias(
-        is_soft(use_bias, joint.linear_hertz),
-        joint.linear_spring,
-        r_a,
-        r_b,
-        state_a.delta_position,
-        state_b.delta_position,
-        joint.delta_center,
-    )
-}
-
 // The anchors and the point row's bias wait for no velocity: taken first, they are there when the
 // angular row is done.
-#[tactic(auto, unfolding(crate::specs::Weld::solve_weld, crate::specs::Weld::solve_point))]
+#[tactic(auto, unfolding(crate::specs::Weld::solve_weld, crate::specs::Weld::solve_point, crate::specs::Weld::solve_bias))]
 pub fn solve_weld(
     base: JointBase,
     mut joint: WeldJoint,
     state_a: BodyState,
     state_b: BodyState,
     use_bias: bool,
-) -> WeldSolved
+) -> KindSolved<WeldJoint>
     ensures { result ≡ D.solve_weld base joint state_a state_b use_bias }
 {
     let m = inv_masses_of(base);
     let v = velocities_of(state_a, state_b);
-    let r_a = rotate_vector(state_a.delta_rotation, joint.frame_a.p);
-    let r_b = rotate_vector(state_b.delta_rotation, joint.frame_b.p);
-    let bias = solve_bias(joint, r_a, r_b, state_a, state_b, use_bias);
+    let anchors = anchors_of(joint.frame_a, joint.frame_b, state_a, state_b);
+    let soft = is_soft(use_bias, joint.linear_hertz);
+    let center = joint.delta_center;
+    let bias = point_bias(soft, joint.linear_spring, anchors, center, state_a, state_b);
     let rotation = joint_rotation(joint, state_a, state_b);
     let angular = solve_angular(base.fixed_rotation, joint, rotation, use_bias, m, v);
-    let point = point_row(bias, r_a, r_b, joint.linear_impulse, m, angular.velocities);
+    let v = angular.velocities;
+    let cdot = point_cdot_grouped(anchors, v);
+    let point = point_row(bias, cdot, anchors, joint.linear_impulse, m, v);
 
     let linear_impulse = point.impulse;
     let angular_impulse = angular.impulse;
@@ -111,8 +84,9 @@ pub fn solve_weld(
     };
     joint.linear_impulse = linear_impulse;
     joint.angular_impulse = angular_impulse;
-    WeldSolved {
+    KindSolved {
         joint,
+        angles: no_angles(),
         velocities,
         report,
     }

@@ -2,8 +2,7 @@
 ghost use Rattle.std.specs.Prelude.{◌≡◌};
 ghost use Rattle.weld.specs.Weld as D;
 
-use constraint::velocity::{Velocities, apply_warm, inv_masses_of, velocities_of};
-use math_functions::quat::rotate_vector;
+use constraint::velocity::{Velocities, anchors_of, apply_warm, inv_masses_of, velocities_of};
 use records::body::BodyState;
 use records::joint::{JointBase, WeldJoint};
 
@@ -19,7 +18,6 @@ pub fn warm_start_weld(
 {
     let m = inv_masses_of(base);
     let v = velocities_of(state_a, state_b);
-    let r_a = rotate_vector(state_a.delta_rotation, joint.frame_a.p);
-    let r_b = rotate_vector(state_b.delta_rotation, joint.frame_b.p);
-    apply_warm(m, r_a, r_b, joint.linear_impulse, joint.angular_impulse, v)
+    let anchors = anchors_of(joint.frame_a, joint.frame_b, state_a, state_b);
+    apply_warm(m, anchors, joint.linear_impulse, joint.angular_impulse, v)
 }

@@ -1,6 +1,6 @@
--- `rows::cone_row` equals its definition, by the cases of an upper limit's row (`Limits`). Assumes nothing.
+-- `rows::cone_row` equals its definition, by the cases of an upper limit's row (constraint's `Limits`). Assumes nothing.
 use Rattle.spherical.specs.Spherical.{cone_row}
-use Rattle.spherical.proofs.Limits.{upper_pushes, upper_rests}
+use Rattle.constraint.proofs.Limits.{upper_pushes, upper_rests}
 use Rattle.spherical.proofs.rows.cone_row.Goals as goal
 
 pub returns-then-sum : goal.returns-then-sum

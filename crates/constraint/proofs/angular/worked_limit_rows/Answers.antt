@@ -1,14 +1,13 @@
--- `solve::limit_rows_at` equals the rows at the joint's fields: both limits' rows by `max_float`'s two cases, the upper's in `Limits`. Assumes nothing.
+-- `angular::worked_limit_rows` equals its definition: both limits' rows by `max_float`'s two cases, the upper's in `Limits`. Assumes nothing.
 use Rattle.math_functions.specs.Scalar.{max_float}
 use Rattle.constraint.specs.Soft.{limit_impulse}
 use Rattle.constraint.specs.Angular.{lower_limit_row, twist_limit_rows}
-use Rattle.constraint.specs.Steps.{lower_limit_sum}
-use Rattle.spherical.specs.Steps.{limit_rows_at}
-use Rattle.spherical.proofs.Limits.{upper_pushes, upper_rests}
-use Rattle.spherical.proofs.solve.limit_rows_at.Goals as goal
+use Rattle.constraint.specs.Steps.{lower_limit_sum, worked_limit_rows}
+use Rattle.constraint.proofs.Limits.{upper_pushes, upper_rests}
+use Rattle.constraint.proofs.angular.worked_limit_rows.Goals as goal
 
 pub returns-then-upper : goal.returns-then-upper
-unfolding limit_rows_at twist_limit_rows lower_limit_row lower_limit_sum limit_impulse max_float
+unfolding worked_limit_rows twist_limit_rows lower_limit_row lower_limit_sum limit_impulse max_float
 returns-then-upper c =
     let upper = upper_pushes _ _ _ _ _ _ c.upper_row_to.ensures c.upper_limit_sum-upper.ensures c.if-upper.true in
     rw (
@@ -22,7 +21,7 @@ returns-then-upper c =
     )
 
 pub returns-then-lower : goal.returns-then-lower
-unfolding limit_rows_at twist_limit_rows lower_limit_row lower_limit_sum limit_impulse max_float
+unfolding worked_limit_rows twist_limit_rows lower_limit_row lower_limit_sum limit_impulse max_float
 returns-then-lower c =
     let upper = upper_rests _ _ _ _ _ _ c.upper_row_to-then-lower.ensures c.upper_limit_sum-upper.ensures c.if-upper.false in
     rw (
@@ -36,7 +35,7 @@ returns-then-lower c =
     )
 
 pub returns-then-upper-2 : goal.returns-then-upper-2
-unfolding limit_rows_at twist_limit_rows lower_limit_row lower_limit_sum limit_impulse max_float
+unfolding worked_limit_rows twist_limit_rows lower_limit_row lower_limit_sum limit_impulse max_float
 returns-then-upper-2 c =
     let upper = upper_pushes _ _ _ _ _ _ c.upper_row_to-then-upper-2.ensures c.upper_limit_sum-upper-2.ensures c.if-upper-2.true in
     rw (
@@ -50,7 +49,7 @@ returns-then-upper-2 c =
     )
 
 pub returns : goal.returns
-unfolding limit_rows_at twist_limit_rows lower_limit_row lower_limit_sum limit_impulse max_float
+unfolding worked_limit_rows twist_limit_rows lower_limit_row lower_limit_sum limit_impulse max_float
 returns c =
     let upper = upper_rests _ _ _ _ _ _ c.upper_row_to-2.ensures c.upper_limit_sum-upper-2.ensures c.if-upper-2.false in
     rw (
