@@ -2,12 +2,13 @@
 #![tactic(auto)]
 
 ghost use Rattle.std.specs.Prelude.{◌≡◌, ◌≤◌};
-ghost use Rattle.scene.specs.Plain.{same_below, plain_run};
+ghost use Rattle.scene.specs.Plain.{same_below, run_answer, plain_run};
 
 use crate::calls::run_calls;
 use crate::still::same_velocities;
 use list_check::check_list;
 use records::body::BodyState;
+use records::refusal::Refusal;
 use scene::{Run, Scene};
 
 mod calls;
@@ -27,26 +28,13 @@ fn is_still(count: u32, before: [BodyState; 32], after: [BodyState; 32]) -> bool
 }
 
 // The run of a list of any bytes on a scene of any counts.
-pub fn run_list(scene: Scene, list: &[u8]) -> Run
-    ensures { result ≡ plain_run scene list.now }
+pub fn run_list(scene: Scene, list: &[u8]) -> Result<Run, Refusal>
+    ensures { run_answer scene result ≡ plain_run scene list.now }
 {
-    let verdict = check_list(scene, list);
-    if verdict.number != 0 {
-        return Run {
-            number: verdict.number,
-            place: verdict.place,
-            still: false,
-            scene,
-        };
-    }
+    check_list(scene, list)?;
     let next = run_calls(scene, list);
     let before = scene.bodies;
     let after = next.bodies;
     let still = is_still(scene.body_count, before, after);
-    Run {
-        number: 0,
-        place: 0,
-        still,
-        scene: next,
-    }
+    Ok(Run { still, scene: next })
 }

@@ -1,7 +1,7 @@
 -- Laws on the calls of a list, as a loop goes through its pairs of bytes, and on its tests. Assumes nothing.
 use mathlib.Core.Path.{◌≡◌, refl, sym, ap, ◌∙◌}
 use mathlib.Core.Logic.{◌≢◌}
-use mathlib.Core.Bool.{Bool, true, false, cond, ◌||◌}
+use mathlib.Core.Bool.{Bool, true, false, cond, ◌||◌, false≢true}
 use mathlib.Core.List.{List, [], ◌∷◌, ◌++◌, map, append-nil}
 use Prim.Native.Nat.{ℕ, zero, suc, ◌+◌, ◌*◌, ◌/◌, ◌%◌, ◌≤◌, ◌<◌}
 use native.Mathlib.Numerals.{add-one, add-two}
@@ -12,12 +12,18 @@ use Rattle.std.proofs.lemmas.List.{get_or-take, get_or-drop, get_or_default}
 use lib.Seq.{drop-cons, take_all}
 use borrow.Author.Tests.{eq-eqb, ne_eqb, ltb-false, leb-false}
 use Rattle.std.specs.Simd.{first_chunks}
+use Rattle.std.specs.Prelude.{Result, Ok, Err, ⊤}
+use Rattle.std.specs.Result.{MatchResult, is_ok}
 use Rattle.records.specs.declared.joint.JointSim.{JointSim}
+use Rattle.records.specs.declared.refusal.Cause.{Cause}
+use Rattle.records.specs.declared.refusal.Cause.TheVariants.{Kind, FirstIndex, SecondIndex, Slot, Stage, Count, Length}
+use Rattle.records.specs.declared.refusal.Refusal.{Refusal}
+use Rattle.records.specs.Refusal.{number_of, tested, refusal}
 use Rattle.scene.specs.declared.Scene.{Scene}
 use Rattle.scene.specs.Plain.{Verdict}
 use Rattle.records.specs.Joint.{unused_joint}
 use Rattle.scene.specs.Calls.{call, calls}
-use Rattle.scene.specs.Plain.{joint_cause, stage_cause, cause, verdict_of, first_cause, early_cause, verdict}
+use Rattle.scene.specs.Plain.{joint_cause, stage_cause, cause, verdict_of, first_cause, early_cause, verdict, verdict_answer}
 use Rattle.list_check.specs.Causes.{joint_causes}
 use Rattle.list_check.proofs.Elements.{fill_more}
 
@@ -69,6 +75,30 @@ module _ (l : List ℕ) (pairs : List (List ℕ)) (k : ℕ) (front : pairs ≡ f
   pub no_call_left : length pairs ≤ k → calls (drop (2 * k) l) ≡ []
   no_call_left h = calls_end l (2 * k) (omega arith)
 
+-- ---- what is tested
+
+-- a cause has a number
+caused : (k : Cause) → number_of k ≢ 0
+caused Kind = λ e. omega arith
+caused FirstIndex = λ e. omega arith
+caused SecondIndex = λ e. omega arith
+caused Slot = λ e. omega arith
+caused Stage = λ e. omega arith
+caused Count = λ e. omega arith
+caused Length = λ e. omega arith
+
+-- a test of a call that finds none
+pub tested_none : (r : Result ⊤ Cause) → is_ok r ≡ true → tested r ≡ 0
+tested_none (Ok u) e = refl
+tested_none (Err k) e = absurd (false≢true e)
+
+-- and one that finds a cause, which is refused at the call's place
+pub tested_cause : (r : Result ⊤ Cause) (e : Refusal) (place : ℕ)
+    → MatchResult r (λ x. ◌≡◌ {A = Result ⊤ Refusal} (Err e) (Ok x)) (λ k. e ≡ refusal k place)
+    → (tested r ≢ 0) × (verdict_answer (Err e) ≡ verdict_of (tested r) place)
+tested_cause (Ok u) e place m = absurd (false≢true (ap is_ok m))
+tested_cause (Err k) e place m = (caused k, ap (λ x. verdict_answer (Err x)) m)
+
 -- ---- the tests before the calls
 
 pub record NoEarly (body_count joint_count bytes : ℕ) : Type 0 where
@@ -86,17 +116,20 @@ no_early n m l e = by (ltb 32 n) (ltb 32 m) (eqb (l % 2) 1) (ltb 8192 l) refl re
     by false false false true q r t e = absurd (omega arith)
     by false false false false q r t e = record { few_joints = ltb-false 32 m q; short = ltb-false 8192 l t }
 
-module _ (s : Scene) (l : List ℕ) (c : ℕ) (is : c ≡ early_cause s.body_count s.joint_count (length l)) where
-  pub early_none : c ≡ 0 → NoEarly s.body_count s.joint_count (length l)
-  early_none o = no_early s.body_count s.joint_count (length l) (sym is ∙ o)
+module _ (s : Scene) (l : List ℕ) where
+  abbrev early : ℕ
+  early = early_cause s.body_count s.joint_count (length l)
 
-  pub verdict_early : c ≢ 0 → verdict_of c 0 ≡ verdict s l
-  unfolding verdict
-  verdict_early o = rw (← is, ne_eqb c 0 o)
+  pub early_none : 0 ≡ early → NoEarly s.body_count s.joint_count (length l)
+  early_none o = no_early s.body_count s.joint_count (length l) (sym o)
 
-  pub verdict_late : c ≡ 0 → first_cause s 0 (calls l) ≡ verdict s l
+  pub verdict_early : (k : Cause) → number_of k ≡ early → verdict_of (number_of k) 0 ≡ verdict s l
   unfolding verdict
-  verdict_late o = rw (sym is ∙ o)
+  verdict_early k is = rw (← is, ne_eqb (number_of k) 0 (caused k))
+
+  pub verdict_late : 0 ≡ early → first_cause s 0 (calls l) ≡ verdict s l
+  unfolding verdict
+  verdict_late o = rw (sym o)
 
 -- ---- the check's loop
 
@@ -122,17 +155,20 @@ slot_cause_is s slot stage b e t = rw (sym e ∙ t)
 pub within : (count slot : ℕ) (b : Bool) → b ≡ leb count slot → b ≡ false → slot < count
 within count slot b e f = leb-false count slot (sym e ∙ f)
 
-pub stage_cause_is : (s : Scene) (causes : List ℕ) (slot stage d c : ℕ) (b : Bool) → length s.joints ≡ 32 → s.joint_count ≤ 32 → causes ≡ joint_causes s
+pub stage_cause_is : (s : Scene) (checked : List (Result ⊤ Cause)) (slot stage : ℕ) (d : Result ⊤ Cause) (c : ℕ) (b : Bool) → length s.joints ≡ 32
+    → s.joint_count ≤ 32
+    → map tested checked ≡ joint_causes s
     → b ≡ leb s.joint_count slot
     → b ≡ false
-    → c ≡ stage_cause (get_or causes slot d) stage
+    → c ≡ stage_cause (tested (get_or checked slot d)) stage
     → c ≡ cause s (call slot stage)
 unfolding cause joint_causes
-stage_cause_is s causes slot stage d c b long low table e f is =
+stage_cause_is s checked slot stage d c b long low table e f is =
     let of : JointSim → ℕ = λ joint. joint_cause s.body_count joint.union_ in
     let wide : slot < length (map of s.joints) = rw (length-map s.joints of, long) (omega (arith, within s.joint_count slot b e f, low)) in
-    let same : get_or causes slot d ≡ of (get_or s.joints slot unused_joint) =
-    rw table (get_or_default (map of s.joints) slot d (of unused_joint) wide ∙ get_or-map of s.joints slot unused_joint) in
+    let same : tested (get_or checked slot d) ≡ of (get_or s.joints slot unused_joint) =
+    sym (get_or-map tested checked slot d)
+    ∙ rw table (get_or_default (map of s.joints) slot (tested d) (of unused_joint) wide ∙ get_or-map of s.joints slot unused_joint) in
     is ∙ rw (sym e ∙ f) (ap (λ x. stage_cause x stage) same)
 
 -- filling the table of causes

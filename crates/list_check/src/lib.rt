@@ -1,14 +1,16 @@
 // The tests of a run, made on the whole list before anything runs.
 #![tactic(auto)]
 
-ghost use Rattle.std.specs.Prelude.{◌≡◌, leb};
+ghost use Rattle.std.specs.Prelude.{◌≡◌, leb, map};
 ghost use Rattle.records.specs.Joint.{is_other};
-ghost use Rattle.scene.specs.Plain.{joint_cause, stage_cause, early_cause, verdict};
+ghost use Rattle.records.specs.Refusal.{tested};
+ghost use Rattle.scene.specs.Plain.{joint_cause, stage_cause, early_cause, verdict, verdict_answer};
 ghost use Rattle.list_check.specs.Causes.{joint_causes};
 
-use joint::index::index_cause;
+use joint::index::check_indices;
 use records::joint::JointUnion;
-use scene::{Scene, Verdict};
+use records::refusal::{Cause, Refusal};
+use scene::Scene;
 
 fn is_other(union_: JointUnion) -> bool
     ensures { result ≡ is_other union_ }
@@ -16,25 +18,25 @@ fn is_other(union_: JointUnion) -> bool
     matches!(union_, JointUnion::Other)
 }
 
-// The causes of a refusal that only the joint decides: 1, 2, 3, or 0.
-fn joint_cause(body_count: u32, union_: JointUnion) -> u32
-    ensures { result ≡ joint_cause body_count union_ }
+// The tests of a call that only its joint decides.
+fn check_joint(body_count: u32, union_: JointUnion) -> Result<(), Cause>
+    ensures { tested result ≡ joint_cause body_count union_ }
 {
     if is_other(union_) {
-        return 1;
+        return Err(Cause::Kind);
     }
-    index_cause(body_count as usize, union_)
+    check_indices(body_count as usize, union_)
 }
 
-// The causes of each joint, found once for all its calls.
-fn joint_causes(scene: Scene) -> [u32; 32]
-    ensures { result ≡ joint_causes scene }
+// These tests of each joint, made once for all its calls.
+fn check_joints(scene: Scene) -> [Result<(), Cause>; 32]
+    ensures { map tested result ≡ joint_causes scene }
 {
-    let mut causes = [0; 32];
+    let mut checked = [Ok(()); 32];
     for k in 0..32 {
-        causes[k] = joint_cause(scene.body_count, scene.joints[k].union_);
+        checked[k] = check_joint(scene.body_count, scene.joints[k].union_);
     }
-    causes
+    checked
 }
 
 // Whether a slot is past the last joint.
@@ -44,65 +46,53 @@ fn is_past(joint_count: u32, slot: u8) -> bool
     joint_count <= slot as u32
 }
 
-// The first cause of a refusal of a call whose slot holds a joint, or 0. `of_joint` is the joint's.
-fn stage_cause(of_joint: u32, stage: u8) -> u32
-    ensures { result ≡ stage_cause of_joint stage }
+// The tests of a call whose slot holds a joint, of which `of_joint` tells.
+fn check_stage(of_joint: Result<(), Cause>, stage: u8) -> Result<(), Cause>
+    ensures { tested result ≡ stage_cause (tested of_joint) stage }
 {
     if 2 < stage {
-        return 5;
+        return Err(Cause::Stage);
     }
     of_joint
 }
 
-// The cause of a refusal before any call is looked at, or 0.
+// The tests before any call is looked at.
 #[tactic(auto, unfolding(scene::specs::Plain::early_cause))]
-fn early_cause(body_count: u32, joint_count: u32, bytes: usize) -> u32
-    ensures { result ≡ early_cause body_count joint_count bytes }
+fn check_before(body_count: u32, joint_count: u32, bytes: usize) -> Result<(), Cause>
+    ensures { tested result ≡ early_cause body_count joint_count bytes }
 {
     if 32 < body_count {
-        return 6;
+        return Err(Cause::Count);
     }
     if 32 < joint_count {
-        return 6;
+        return Err(Cause::Count);
     }
     if bytes % 2 == 1 {
-        return 7;
+        return Err(Cause::Length);
     }
     if 8192 < bytes {
-        return 7;
+        return Err(Cause::Length);
     }
-    0
+    Ok(())
 }
 
-// The first cause of a refusal in the whole list, with its place.
-pub fn check_list(scene: Scene, list: &[u8]) -> Verdict
-    ensures { result ≡ verdict scene list.now }
+// The first cause of a refusal in the whole list, with its place. A slot is tested before its joint's
+// tests are read, which is faster than both tests of the call in one.
+pub fn check_list(scene: Scene, list: &[u8]) -> Result<(), Refusal>
+    ensures { verdict_answer result ≡ verdict scene list.now }
 {
-    let n = list.len();
-    let early = early_cause(scene.body_count, scene.joint_count, n);
-    if early != 0 {
-        return Verdict {
-            number: early,
-            place: 0,
-        };
-    }
-    let causes = joint_causes(scene);
+    check_before(scene.body_count, scene.joint_count, list.len())?;
+    let checked = check_joints(scene);
     let (calls, _) = list.as_chunks::<2>();
     for (place, &[slot, stage]) in calls.iter().enumerate() {
         let place = place as u32;
         if is_past(scene.joint_count, slot) {
-            return Verdict { number: 4, place };
-        }
-        let cause = stage_cause(causes[slot as usize], stage);
-        if cause != 0 {
-            return Verdict {
-                number: cause,
+            return Err(Refusal {
+                cause: Cause::Slot,
                 place,
-            };
+            });
         }
+        check_stage(checked[slot as usize], stage).map_err(|cause| Refusal { cause, place })?;
     }
-    Verdict {
-        number: 0,
-        place: 0,
-    }
+    Ok(())
 }
