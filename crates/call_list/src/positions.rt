@@ -16,7 +16,7 @@ pub struct Positions {
 
 // An index's position among 32 bodies and the identity state after them: that of the identity state
 // for -1, and for an index past them.
-// Speed: by `usize::try_from` a weld's warm start in the program bench has 343 instructions, so it has 319.
+// Speed: by `usize::try_from` a weld's warm start in the program bench has 343 instructions, and 319 so.
 fn body_position(index: i32) -> usize
     ensures { (result < 33) × (result ≡ D.body_position index) }
 {

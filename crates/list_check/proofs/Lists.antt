@@ -78,7 +78,7 @@ module _ (l : List ℕ) (pairs : List (List ℕ)) (k : ℕ) (front : pairs ≡ f
 -- ---- what is tested
 
 -- a cause has a number
-caused : (k : Cause) → number_of k ≢ 0
+pub caused : (k : Cause) → number_of k ≢ 0
 caused Kind = λ e. omega arith
 caused FirstIndex = λ e. omega arith
 caused SecondIndex = λ e. omega arith

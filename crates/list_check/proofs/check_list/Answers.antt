@@ -1,7 +1,6 @@
 -- `check_list` equals its definition: no call before the call `place` has a cause. Assumes nothing.
 use Rattle.std.proofs.Common.{◌≡◌, length, ◌∙◌, sym, arith, rules}
 use Rattle.std.proofs.lemmas.Result.{err_from_is_err_and, MatchResult-weaker}
-use Rattle.records.specs.Refusal.{tested}
 use Rattle.list_check.proofs.Lists.{tested_none, tested_cause, early_none, verdict_early, verdict_late}
 use Rattle.list_check.proofs.Lists.{slot_cause_is, within, stage_cause_is, check_more, check_stop, check_end}
 use Rattle.list_check.proofs.check_list.Goals as goal

@@ -2,6 +2,7 @@
 use Rattle.std.proofs.Common.{◌≡◌, ap, ◌∙◌, ◌<◌, arith}
 use lib.ListN.{set}
 use Rattle.records.specs.declared.joint.JointSim.{JointSim}
+use Rattle.constraint.specs.Answer.{warm_start_answer, solve_answer}
 use Rattle.list_check.proofs.Lists.{slot_at, stage_at}
 use Rattle.call_list.proofs.StageCodes.{code, coded, nothing}
 use Rattle.call_list.proofs.Arms.{worked_warm, worked_solve, worked_none}
@@ -42,17 +43,17 @@ loop-slot-preserved c =
     a.result b.result m.joints m.v w.long_bodies w.long_joints w.holds a.ensures b.ensures at.ensures.1
     (ap (λ x. x.at_a) positions.ensures.2) (ap (λ x. x.at_b) positions.ensures.2)
     (elim m.branch [
-      | in-RevoluteWarmStart z ↦ warm 0 z.warm_start_revolute_joint.result (ap code z.in-RevoluteWarmStart.is) low0
+      | in-RevoluteWarmStart z ↦ warm 0 (warm_start_answer z.warm_start_revolute_joint.result) (ap code z.in-RevoluteWarmStart.is) low0
           z.warm_start_revolute_joint.ensures z.joints-is z.v-is
-      | in-SphericalWarmStart z ↦ warm 1 z.warm_start_spherical_joint.result (ap code z.in-SphericalWarmStart.is) low1
+      | in-SphericalWarmStart z ↦ warm 1 (warm_start_answer z.warm_start_spherical_joint.result) (ap code z.in-SphericalWarmStart.is) low1
           z.warm_start_spherical_joint.ensures z.joints-is z.v-is
-      | in-WeldWarmStart z ↦ warm 2 z.warm_start_weld_joint.result (ap code z.in-WeldWarmStart.is) low2
+      | in-WeldWarmStart z ↦ warm 2 (warm_start_answer z.warm_start_weld_joint.result) (ap code z.in-WeldWarmStart.is) low2
           z.warm_start_weld_joint.ensures z.joints-is z.v-is
-      | in-RevoluteSolve z ↦ solve 0 z.solve_revolute_joint-s.result (ap code z.in-RevoluteSolve.is) low0 z.solve_revolute_joint-s.ensures
+      | in-RevoluteSolve z ↦ solve 0 (solve_answer z.solve_revolute_joint-s.result) (ap code z.in-RevoluteSolve.is) low0 z.solve_revolute_joint-s.ensures
           (z.joints-is ∙ stored _ _ z.solved_joint.ensures) z.v-is
-      | in-SphericalSolve z ↦ solve 1 z.solve_spherical_joint-s.result (ap code z.in-SphericalSolve.is) low1 z.solve_spherical_joint-s.ensures
+      | in-SphericalSolve z ↦ solve 1 (solve_answer z.solve_spherical_joint-s.result) (ap code z.in-SphericalSolve.is) low1 z.solve_spherical_joint-s.ensures
           (z.joints-is ∙ stored _ _ z.solved_joint-in-SphericalSolve.ensures) z.v-is
-      | in-WeldSolve z ↦ solve 2 z.solve_weld_joint-s.result (ap code z.in-WeldSolve.is) low2 z.solve_weld_joint-s.ensures
+      | in-WeldSolve z ↦ solve 2 (solve_answer z.solve_weld_joint-s.result) (ap code z.in-WeldSolve.is) low2 z.solve_weld_joint-s.ensures
           (z.joints-is ∙ stored _ _ z.solved_joint-in-WeldSolve.ensures) z.v-is
       | in-Nothing z ↦ none (nothing _ z.in-Nothing.is) z.joints-is (z.v-is ∙ z.velocities_of-v.ensures)
     ])
