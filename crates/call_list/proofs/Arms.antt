@@ -58,7 +58,8 @@ module _ (js : List JointSim) (at : ℕ) (d : JointSim) (context : StepContext) 
   solve_stage f o = rw (f, ne_eqb stage 0 o)
 
   -- in the arm of a kind's warm start
-  pub worked_warm : (k : ℕ) (r : WarmStartedAnswer) → c ≡ k → k < 3 → r ≡ warm_start_of k j a b → next ≡ js → v ≡ r.velocities → ArmWorked js at its_stage next v
+  pub worked_warm : (k : ℕ) (r : WarmStartedAnswer) → c ≡ k → k < 3 → r ≡ warm_start_of k j a b → next ≡ js → v ≡ r.velocities
+      → ArmWorked js at its_stage next v
   worked_warm k r f low g n m =
       let of = warm_code slot j.union_ stage k (sym coded ∙ f) low in
       unmoved (of_warm_start (warm_start_joint j a b)) (warm_stage of.0 of.2) (warm_start_joint_lem j a b) n

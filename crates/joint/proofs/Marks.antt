@@ -92,7 +92,8 @@ pub prepare_fell_back : PrepareFellBack
 prepare_fell_back joint context body_a body_b = fell_back joint context body_a body_b joint.union_ refl
 
 -- a refusal has none, and what is worked is no refusal
-solve_refusal : {K : Type 0} (found : Option K) (refusal : SolvedAnswer) (work : K → SolvedAnswer) → refusal.report ≡ no_report → ((k : K) → (work k).number ≡ 0)
+solve_refusal : {K : Type 0} (found : Option K) (refusal : SolvedAnswer) (work : K → SolvedAnswer) → refusal.report ≡ no_report
+    → ((k : K) → (work k).number ≡ 0)
     → (of_kind found refusal work).number ≢ 0 → (of_kind found refusal work).report ≡ no_report
 solve_refusal found refusal work is done =
     always (λ (r : SolvedAnswer). r.number ≢ 0 → r.report ≡ no_report) found refusal work (λ ne. is) (λ k ne. absurd (ne (done k)))

@@ -22,7 +22,8 @@ pub record Reached (call : StageCall) (joint : JointSim) (states : List BodyStat
   pub holds : out ≡ lent_calls call joint states body_count made
 
 module _ (call : StageCall) (joint : JointSim) (states : List BodyState) (body_count calls n : ℕ) where
-  pub no_call : n ≡ min body_count 40 → length states ≡ 40 → (a : CallAnswer) → a ≡ no_answer → Reached call joint states body_count calls n 0 (left a joint states)
+  pub no_call : n ≡ min body_count 40 → length states ≡ 40 → (a : CallAnswer) → a ≡ no_answer
+      → Reached call joint states body_count calls n 0 (left a joint states)
   unfolding lent_calls
   no_call lent whole a a-is = record { lent = lent; within = omega arith; whole = whole; holds = ap (λ x. left x joint states) a-is }
 

@@ -8,7 +8,7 @@ ghost use Rattle.math_functions.specs.Steps as Steps;
 use crate::arctangent::first_quadrant_angle;
 use crate::scalar::atan2;
 use crate::types::{Quat, Vec3};
-use crate::vector::{cross, dot, mul_add, mul_sub, mul_sv, sub};
+use crate::vector::{cross, dot, mul_add, mul_sub, mul_sv, neg, sub};
 use sqrt::sqrt;
 
 // Rotate a vector.
@@ -61,31 +61,23 @@ pub fn inv_mul_quat(q1: Quat, q2: Quat) -> Quat
 }
 
 // Quaternion conjugate (cheap inverse).
-#[tactic(auto, unfolding(crate::specs::Quat::conjugate))]
+#[tactic(auto, unfolding(crate::specs::Quat::conjugate, crate::specs::Vector::neg))]
 pub fn conjugate(q: Quat) -> Quat
     ensures { result ≡ D.conjugate q }
 {
     Quat {
-        v: Vec3 {
-            x: -q.v.x,
-            y: -q.v.y,
-            z: -q.v.z,
-        },
+        v: neg(q.v),
         s: q.s,
     }
 }
 
 // Component-wise quaternion negation.
-#[tactic(auto, unfolding(crate::specs::Quat::negate_quat))]
+#[tactic(auto, unfolding(crate::specs::Quat::negate_quat, crate::specs::Vector::neg))]
 pub fn negate_quat(q: Quat) -> Quat
     ensures { result ≡ D.negate_quat q }
 {
     Quat {
-        v: Vec3 {
-            x: -q.v.x,
-            y: -q.v.y,
-            z: -q.v.z,
-        },
+        v: neg(q.v),
         s: -q.s,
     }
 }

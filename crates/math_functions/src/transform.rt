@@ -3,15 +3,12 @@ ghost use Rattle.std.specs.Prelude.{◌≡◌};
 ghost use Rattle.math_functions.specs.Transform as D;
 
 use crate::types::{Pos, Vec3};
+use crate::vector::sub;
 
 // a - b. In the build without double precision nothing is left to demote.
-#[tactic(auto, unfolding(crate::specs::Transform::sub_pos))]
+#[tactic(auto, unfolding(crate::specs::Transform::sub_pos, crate::specs::Vector::sub))]
 pub fn sub_pos(a: Pos, b: Pos) -> Vec3
     ensures { result ≡ D.sub_pos a b }
 {
-    Vec3 {
-        x: a.x - b.x,
-        y: a.y - b.y,
-        z: a.z - b.z,
-    }
+    sub(a, b)
 }

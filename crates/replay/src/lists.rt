@@ -44,12 +44,7 @@ fn scene_of(case: &mut Case<'_>, head: Head) -> Scene {
 }
 
 // Whether the list runs as the answer says.
-fn left(
-    mut case: Case<'_>,
-    head: Head,
-    answer: (u32, u32, bool),
-    scene: &Scene,
-) -> Agreement {
+fn left(mut case: Case<'_>, head: Head, answer: (u32, u32, bool), scene: &Scene) -> Agreement {
     case.answer(answer);
     case.answer((scene.joint_count, scene.body_count, scene.context));
     answer_places(&mut case, head.joints as usize, &scene.joints);

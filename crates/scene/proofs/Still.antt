@@ -77,15 +77,6 @@ same_float_lem x y = (to_float x y, λ e. ap (same_float x) (sym e) ∙ float_se
 
 -- as code finds it: a NaN is unlike itself, and what is none has a pattern
 
-pub nan_same : (x y : Float) → ne x x ≡ true → ne y y ≡ same_float x y
-unfolding same_float is_nan ne eq
-nan_same x y h = by y ∙ ap (λ z. same_float z y) (sym (differs_from_itself x (is_T h)))
-  where
-    by : (y : Float) → ne y y ≡ is_nan y
-    by nan = refl
-    by (inf s) = ap not (beq_self s)
-    by (fin s m e) = rw (eq-eqb (m * up e * down e) (m * up e * down e) refl, beq_self s)
-
 pub nan_unlike : (x y : Float) → ne x x ≡ false → ne y y ≡ true → same_float x y ≡ false
 unfolding same_float ne eq
 nan_unlike x y h g = ap (same_float x) (differs_from_itself y (is_T g)) ∙ by x h

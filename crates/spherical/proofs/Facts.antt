@@ -203,7 +203,8 @@ module _ (sim : JointSim) (context : StepContext) (body_a body_b : BodyRecord) w
   pub prepare_angles : (prepare_spherical_joint sim context body_a body_b).number ≡ 0
       → (prepare_spherical_joint sim context body_a body_b).joint.angles ≡ no_angles
   unfolding prepare_spherical_joint
-  prepare_angles = accepted (λ (r : PreparedAnswer). r.number) (λ (r : PreparedAnswer). r.joint.angles ≡ no_angles) (as_spherical sim.union_) _ _ refl (λ k. refl)
+  prepare_angles = accepted (λ (r : PreparedAnswer). r.number) (λ (r : PreparedAnswer). r.joint.angles ≡ no_angles) (as_spherical sim.union_) _ _ refl
+      (λ k. refl)
 
 module _ (sim : JointSim) (state_a state_b : BodyState) where
   -- a warm start changes no field of the joint

@@ -28,7 +28,8 @@ unfolding solve_spherical solve_point point_row_at
 solve_marks base j state_a state_b h inv_h use_bias = refl
 
 -- where rotation is fixed the mass is zeros too, and has no mark
-fell_back : (fixed_rotation : Bool) (sum : Matrix3) → rotation_mass_mark fixed_rotation sum ≡ Some FellBack → prepare_rotation_mass fixed_rotation sum ≡ mat3_zero
+fell_back : (fixed_rotation : Bool) (sum : Matrix3) → rotation_mass_mark fixed_rotation sum ≡ Some FellBack
+    → prepare_rotation_mass fixed_rotation sum ≡ mat3_zero
 unfolding prepare_rotation_mass rotation_mass_mark
 fell_back true sum e = refl
 fell_back false sum e = fell_back_to_zeros.inverse sum (cc)

@@ -37,10 +37,7 @@ fn is_at_upper(enabled: bool, impulse: f32, upper_angle: f32, angle: f32) -> boo
 fn sum_stops(lower: bool, upper: bool, cone: bool) -> u32
     ensures { result ≡ D.sum_stops lower upper cone }
 {
-    let at_lower = if lower { 1u32 } else { 0 };
-    let at_upper = if upper { 2u32 } else { 0 };
-    let at_cone = if cone { 4u32 } else { 0 };
-    at_lower + at_upper + at_cone
+    u32::from(lower) + 2 * u32::from(upper) + 4 * u32::from(cone)
 }
 
 #[tactic(auto, unfolding(crate::specs::StopCode::revolute_stops))]

@@ -7,4 +7,5 @@ use Rattle.lent_calls.proofs.lend_calls.Given as goal
 -- what the calls so far have answered and left
 abbrev pub invariant-loop : goal.invariant-loop
 invariant-loop g l =
-    (c : StageCall) → Makes (goal.F-post g l.call) c → Reached c l.fn.joint l.fn.states l.body_count l.calls l.n l.counter (left (answered l.answer) l.joint l.states)
+    (c : StageCall) → Makes (goal.F-post g l.call) c → Reached c l.fn.joint l.fn.states l.body_count l.calls l.n l.counter
+    (left (answered l.answer) l.joint l.states)

@@ -1,2 +1,0 @@
--- What proofs of the crates above cite. Assumes nothing.
-pub mod Cases
