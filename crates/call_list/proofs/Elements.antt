@@ -1,13 +1,13 @@
--- Laws on single elements of the arrays: a body's position, what is read and stored there, and filling an array. Assumes nothing.
+-- Laws on single elements of the arrays: a body's position, what is read and stored there, and the first elements of an array. Assumes nothing.
 use mathlib.Core.Path.{◌≡◌, sym, ap, ◌∙◌, refl}
 use mathlib.Core.Bool.{Bool, true, false, cond}
-use mathlib.Core.List.{List, [], ◌∷◌, ◌++◌}
+use mathlib.Core.List.{List, [], ◌∷◌}
 use Prim.Native.Nat.{ℕ, ◌≤◌, ◌<◌}
 use native.Mathlib.Omega.{arith}
 use lib.Dec.{ltb}
 use lib.IntN.{ℤ, pos, negsuc}
-use lib.ListN.{length, get_or, set, take, drop, replicate, get_or-append, get_or-eq_default}
-use lib.Seq.{set_out, set_at, set-append_left, take_all, get_or_at}
+use lib.ListN.{length, get_or, set, take, get_or-append, get_or-eq_default}
+use lib.Seq.{set_out, set_at, set-append_left, get_or_at, length-take-le}
 use borrow.Author.Tests.{lt-ltb, ltb-true, ltb-false}
 use Rattle.math_functions.specs.declared.types.Vec3.{Vec3}
 use Rattle.records.specs.declared.body.BodyState.{BodyState}
@@ -15,7 +15,7 @@ use Rattle.records.specs.Body.{is_dynamic, store_velocities, identity_body_state
 use Rattle.scene.specs.Scene.{state_at, store}
 use Rattle.scene.proofs.Stores as Stores
 use Rattle.scene.proofs.Stores.{store_none}
-use Rattle.std.proofs.lemmas.List.{get_or_default}
+use Rattle.std.proofs.lemmas.List.{get_or_default, get_or-take, ext_get_or}
 use Rattle.call_list.specs.Positions.{body_position, joint_position, with_identity}
 
 -- ---- positions
@@ -82,10 +82,12 @@ kept_is us long (pos n) y d v w e = by (ltb n 32) refl e
 pub store_long : (us : List BodyState) (z : ℤ) (v w : Vec3) → length us ≡ 32 → length (store us z v w) ≡ 32
 store_long us z v w h = Stores.store_long us z v w ∙ h
 
--- ---- filling an array from another, with the identity state after it
+-- ---- an array of the first elements of another
 
-pub fill_33 : (bs w : List BodyState) (k : ℕ) → length bs ≡ 32 → k ≡ 32 → w ≡ take k bs ++ drop k (replicate 33 identity_body_state) → w ≡ with_identity bs
-unfolding with_identity
-fill_33 bs w k long e q =
-    let n : length bs ≤ 32 = omega arith in
-    q ∙ rw e (ap (λ l. l ++ (identity_body_state ∷ [])) (take_all 32 bs n))
+pub first_32 : (l bs : List BodyState) → length l ≡ 32 → length bs ≡ 33
+    → ((k : ℕ) (e : BodyState) → k < 32 → (d : BodyState) → get_or l k e ≡ get_or bs k d)
+    → l ≡ take 32 bs
+first_32 l bs long more each =
+    let e = identity_body_state in
+    ext_get_or e l (take 32 bs) (long ∙ sym (length-take-le 32 bs (omega arith)))
+    (λ k h. let low : k < 32 = omega arith in each k e low e ∙ sym (get_or-take 32 bs k e low))

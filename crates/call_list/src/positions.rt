@@ -6,6 +6,7 @@ use joint::index::indices_of;
 use records::body::{BodyState, IDENTITY_BODY_STATE};
 use records::joint::{JointSim, JointUnion};
 use scene::Scene;
+use std::array;
 
 // The positions of a joint's two bodies in an array that ends with the identity state.
 #[derive(Clone, Copy)]
@@ -15,15 +16,16 @@ pub struct Positions {
 }
 
 // An index's position among 32 bodies and the identity state after them: that of the identity state
-// for -1, and for an index past them.
-// Speed: by `usize::try_from` a weld's warm start in the program bench has 343 instructions, and 319 so.
+// for -1, and for an index past them. By `usize::try_from` a spherical joint's warm start in the program
+// bench has 366 instructions, so it has 355.
 fn body_position(index: i32) -> usize
     ensures { (result < 33) × (result ≡ D.body_position index) }
 {
-    if index < 0 {
-        return 32;
+    if (0..32).contains(&index) {
+        index as usize
+    } else {
+        32
     }
-    if index < 32 { index as usize } else { 32 }
 }
 
 pub fn positions_of(joint: JointSim) -> Positions
@@ -50,14 +52,14 @@ pub enum Work {
 }
 
 // The work past the last slot is none.
-// Speed: each arm of `work_of` tests the slot; with one test behind them a weld's warm start in the program
-// bench has 23 instructions more, of 319.
 fn in_slot(slot: u8, work: Work) -> Work
     ensures { result ≡ D.in_slot slot work }
 {
     if slot < 32 { work } else { Work::Nothing }
 }
 
+// Each arm tests the slot: with one test behind them a weld's warm start in the program bench has 23
+// instructions more, of 319.
 #[tactic(auto, unfolding(crate::specs::Positions::work_of))]
 pub fn work_of(slot: u8, joint: JointSim, stage: u8) -> Work
     ensures { result ≡ D.work_of slot joint.union_ stage }
@@ -93,24 +95,17 @@ pub fn joint_position(slot: u8) -> usize
 }
 
 // The bodies of a scene, and the identity state after them.
-// Speed: by `copy_from_slice`, here and below, a weld's warm start in the program bench has 326 instructions,
-// so it has 319: whole scenes are then copied.
 pub fn with_identity(scene: Scene) -> [BodyState; 33]
     ensures { result ≡ D.with_identity scene.bodies }
 {
     let mut out = [IDENTITY_BODY_STATE; 33];
-    for k in 0..32 {
-        out[k] = scene.bodies[k];
-    }
+    out[..32].copy_from_slice(&scene.bodies);
     out
 }
 
+// The bodies without the identity state after them.
 pub fn without_identity(bodies: [BodyState; 33]) -> [BodyState; 32]
     ensures { result ≡ take 32 bodies }
 {
-    let mut out = [IDENTITY_BODY_STATE; 32];
-    for k in 0..32 {
-        out[k] = bodies[k];
-    }
-    out
+    array::from_fn(|k| bodies[k])
 }

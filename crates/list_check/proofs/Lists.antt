@@ -2,14 +2,14 @@
 use mathlib.Core.Path.{◌≡◌, refl, sym, ap, ◌∙◌}
 use mathlib.Core.Logic.{◌≢◌}
 use mathlib.Core.Bool.{Bool, true, false, cond, ◌||◌, false≢true}
-use mathlib.Core.List.{List, [], ◌∷◌, ◌++◌, map, append-nil}
+use mathlib.Core.List.{List, [], ◌∷◌, map}
 use Prim.Native.Nat.{ℕ, zero, suc, ◌+◌, ◌*◌, ◌/◌, ◌%◌, ◌≤◌, ◌<◌}
 use native.Mathlib.Numerals.{add-one, add-two}
 use native.Mathlib.Omega.{arith}
 use lib.Dec.{eqb, ltb, leb}
-use lib.ListN.{length, get_or, set, take, drop, length-drop, length-map, replicate, length-replicate, get_or-map}
-use Rattle.std.proofs.lemmas.List.{get_or-take, get_or-drop, get_or_default}
-use lib.Seq.{drop-cons, take_all}
+use lib.ListN.{length, get_or, drop, length-drop, length-map, get_or-map}
+use Rattle.std.proofs.lemmas.List.{get_or-take, get_or-drop, get_or_default, ext_get_or}
+use lib.Seq.{drop-cons}
 use borrow.Author.Tests.{eq-eqb, ne_eqb, ltb-false, leb-false}
 use Rattle.std.specs.Simd.{first_chunks}
 use Rattle.std.specs.Prelude.{Result, Ok, Err, ⊤}
@@ -25,7 +25,6 @@ use Rattle.records.specs.Joint.{unused_joint}
 use Rattle.scene.specs.Calls.{call, calls}
 use Rattle.scene.specs.Plain.{joint_cause, stage_cause, cause, verdict_of, first_cause, early_cause, verdict, verdict_answer}
 use Rattle.list_check.specs.Causes.{joint_causes}
-use Rattle.list_check.proofs.Elements.{fill_more}
 
 -- ---- the call at a byte
 
@@ -171,20 +170,18 @@ stage_cause_is s checked slot stage d c b long low table e f is =
     ∙ rw table (get_or_default (map of s.joints) slot (tested d) (of unused_joint) wide ∙ get_or-map of s.joints slot unused_joint) in
     is ∙ rw (sym e ∙ f) (ap (λ x. stage_cause x stage) same)
 
--- filling the table of causes
-pub causes_more : (s : Scene) (w : List ℕ) (k : ℕ) (d : JointSim) (c : ℕ) → length s.joints ≡ 32 → k < 32
-    → w ≡ take k (joint_causes s) ++ drop k (replicate 32 0)
-    → c ≡ joint_cause s.body_count (get_or s.joints k d).union_
-    → set w k c ≡ take (k + 1) (joint_causes s) ++ drop (k + 1) (replicate 32 0)
+-- the table of causes, by its elements
+pub causes_all : (s : Scene) (l : List (Result ⊤ Cause)) (d : JointSim) → length s.joints ≡ 32 → length l ≡ 32
+    → ((k : ℕ) (e : Result ⊤ Cause) → k < 32 → tested (get_or l k e) ≡ joint_cause s.body_count (get_or s.joints k d).union_)
+    → map tested l ≡ joint_causes s
 unfolding joint_causes
-causes_more s w k d c long h e is =
+causes_all s l d long m each =
     let of : JointSim → ℕ = λ joint. joint_cause s.body_count joint.union_ in
-    let here : c ≡ get_or (map of s.joints) k (of d) = is ∙ sym (get_or-map of s.joints k d) in
-    rw here (fill_more (map of s.joints) (replicate 32 0) w k (of d) e (rw (length-map s.joints of, long) h) (rw (length-replicate {A = ℕ} 32 0) h))
-
-pub causes_all : (s : Scene) (w : List ℕ) (k : ℕ) → length s.joints ≡ 32 → k ≡ 32 → w ≡ take k (joint_causes s) ++ drop k (replicate 32 0) → w ≡ joint_causes s
-unfolding joint_causes
-causes_all s w k long e q =
-    let of : JointSim → ℕ = λ joint. joint_cause s.body_count joint.union_ in
-    let n : length (map of s.joints) ≤ 32 = rw (length-map s.joints of, long) (omega arith) in
-    q ∙ rw e (ap (λ l. l ++ []) (take_all 32 (map of s.joints) n) ∙ append-nil (map of s.joints))
+    ext_get_or 0 (map tested l) (map of s.joints) (length-map l tested ∙ m ∙ sym (length-map s.joints of ∙ long))
+    (λ k h. one k (rw (length-map l tested, m) at h))
+  where
+    one : (k : ℕ) → k < 32 → get_or (map tested l) k 0 ≡ get_or (map (λ joint. joint_cause s.body_count joint.union_) s.joints) k 0
+    one k h =
+        let of : JointSim → ℕ = λ joint. joint_cause s.body_count joint.union_ in
+        let wide : k < length (map of s.joints) = rw (length-map s.joints of, long) h in
+        get_or-map tested l k (Ok tt) ∙ each k (Ok tt) h ∙ sym (get_or-map of s.joints k d) ∙ get_or_default (map of s.joints) k (of d) 0 wide

@@ -11,6 +11,7 @@ use joint::index::check_indices;
 use records::joint::JointUnion;
 use records::refusal::{Cause, Refusal};
 use scene::Scene;
+use std::array;
 
 fn is_other(union_: JointUnion) -> bool
     ensures { result ≡ is_other union_ }
@@ -32,11 +33,7 @@ fn check_joint(body_count: u32, union_: JointUnion) -> Result<(), Cause>
 fn check_joints(scene: Scene) -> [Result<(), Cause>; 32]
     ensures { map tested result ≡ joint_causes scene }
 {
-    let mut checked = [Ok(()); 32];
-    for k in 0..32 {
-        checked[k] = check_joint(scene.body_count, scene.joints[k].union_);
-    }
-    checked
+    array::from_fn(|k| check_joint(scene.body_count, scene.joints[k].union_))
 }
 
 // Whether a slot is past the last joint.
