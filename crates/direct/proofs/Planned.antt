@@ -3,7 +3,6 @@
 --     warm_start_leaves, solve_leaves  one that is not: what its steps answer and leave is the outcome
 --     write_long                       as many states as before
 use mathlib.Core.Path.{◌≡◌, refl, sym, ap, ap₂, ◌∙◌}
-use mathlib.Core.Logic.{◌≢◌}
 use mathlib.Core.Bool.{Bool, true, false, cond, false≢true}
 use mathlib.Core.List.{List}
 use Prim.Native.Nat.{ℕ, ◌<◌}
@@ -23,8 +22,8 @@ use Rattle.records.specs.Body.{identity_body_state}
 use Rattle.constraint.specs.declared.velocity.Velocities.{Velocities}
 use Rattle.std.specs.Prelude.{Option, None, Some}
 use Rattle.records.specs.declared.refusal.Cause.{Cause}
-use Rattle.records.specs.declared.refusal.Cause.TheVariants.{Kind, FirstIndex, SecondIndex, Slot, Stage, Count, Length}
 use Rattle.records.specs.Refusal.{number_of}
+use Rattle.records.proofs.Causes.{caused}
 use Rattle.constraint.specs.declared.answer.WarmStarted.{WarmStarted}
 use Rattle.constraint.specs.declared.answer.Solved.{Solved}
 use Rattle.constraint.specs.Answer.{no_report, warm_start_answer, solve_answer}
@@ -86,16 +85,6 @@ module _ (joint : JointSim) (kind : ℕ) (a b : BodyState) (is : (case_of joint.
   solve_is context false = ap of_solve (solve_of_lem kind joint a b is.0 is.1 context false)
 
 -- ---- the whole call
-
--- no cause has the number 0
-caused : (cause : Cause) → number_of cause ≢ 0
-caused Kind e = absurd (omega (arith, e))
-caused FirstIndex e = absurd (omega (arith, e))
-caused SecondIndex e = absurd (omega (arith, e))
-caused Slot e = absurd (omega (arith, e))
-caused Stage e = absurd (omega (arith, e))
-caused Count e = absurd (omega (arith, e))
-caused Length e = absurd (omega (arith, e))
 
 module _ (joint : JointSim) (s : List BodyState) where
   abbrev a : BodyState

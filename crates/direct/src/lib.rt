@@ -73,6 +73,8 @@ fn solve<K: Kind>(
     }
 }
 
+// The six calls of document 01, by the Rust's names.
+
 pub fn warm_start_revolute_joint(joint: &mut JointSim, states: &mut [BodyState]) -> Answer
     ensures { D.Leaves (D.direct_call (D.warm_start D.revolute) joint.old states.old)
         (D.answered result) joint.new states.new }

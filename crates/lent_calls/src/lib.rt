@@ -16,7 +16,8 @@ use records::body::BodyState;
 use records::joint::JointSim;
 use solver::StepContext;
 
-// What the last call answered (no refusal and no mark where there was none), and what the calls left.
+// What the last call answered (no refusal and no mark where there was none), and what the calls left. The
+// states are an array, handed over and back, since nothing here allocates.
 #[derive(Clone, Copy)]
 pub struct Lent {
     pub answer: Answer,
@@ -83,6 +84,8 @@ pub fn lend_calls<F: Fn(&mut JointSim, &mut [BodyState]) -> Answer>(
         states,
     }
 }
+
+// The six direct calls, each lent by its own name: a program that times one has no closure of its own.
 
 pub fn lend_warm_start_revolute_joint(
     joint: JointSim,

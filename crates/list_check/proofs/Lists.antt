@@ -16,9 +16,9 @@ use Rattle.std.specs.Prelude.{Result, Ok, Err, ⊤}
 use Rattle.std.specs.Result.{MatchResult, is_ok}
 use Rattle.records.specs.declared.joint.JointSim.{JointSim}
 use Rattle.records.specs.declared.refusal.Cause.{Cause}
-use Rattle.records.specs.declared.refusal.Cause.TheVariants.{Kind, FirstIndex, SecondIndex, Slot, Stage, Count, Length}
 use Rattle.records.specs.declared.refusal.Refusal.{Refusal}
 use Rattle.records.specs.Refusal.{number_of, tested, refusal}
+use Rattle.records.proofs.Causes.{caused}
 use Rattle.scene.specs.declared.Scene.{Scene}
 use Rattle.scene.specs.Plain.{Verdict}
 use Rattle.records.specs.Joint.{unused_joint}
@@ -75,16 +75,6 @@ module _ (l : List ℕ) (pairs : List (List ℕ)) (k : ℕ) (front : pairs ≡ f
   no_call_left h = calls_end l (2 * k) (omega arith)
 
 -- ---- what is tested
-
--- a cause has a number
-pub caused : (k : Cause) → number_of k ≢ 0
-caused Kind = λ e. omega arith
-caused FirstIndex = λ e. omega arith
-caused SecondIndex = λ e. omega arith
-caused Slot = λ e. omega arith
-caused Stage = λ e. omega arith
-caused Count = λ e. omega arith
-caused Length = λ e. omega arith
 
 -- a test of a call that finds none
 pub tested_none : (r : Result ⊤ Cause) → is_ok r ≡ true → tested r ≡ 0

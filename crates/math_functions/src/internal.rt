@@ -1,4 +1,5 @@
-// Vec2 arithmetic.
+// Vec2 arithmetic, by the Rust's names beside those of Vec3: rows of either go by the trait `Scaled` of the
+// crate constraint.
 ghost use Rattle.std.specs.Prelude.{◌≡◌};
 ghost use Rattle.math_functions.specs.Internal as D;
 

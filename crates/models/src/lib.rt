@@ -18,8 +18,8 @@ pub mod door;
 pub mod hip;
 pub mod strut;
 
-// A joint before prepare, and what prepare reads of its two bodies. The figures are an example's;
-// specs/ has each of them.
+// A joint before prepare, and what prepare reads of its two bodies. The figures are an example's; specs/ has
+// each of them, and each model states its own.
 #[derive(Clone, Copy)]
 pub struct Model {
     pub joint: JointSim,

@@ -4,7 +4,7 @@
 -- They are about the plain run. The program's run is the function `run_list` of the crate `call_list`, and its contract is that it answers the plain run,
 -- number, place, still and the whole scene, for every scene and every list of bytes:
 --
---     run_list scene list ≡ plain_run scene list
+--     run_answer scene (run_list scene list) ≡ plain_run scene list
 --
 -- So each statement about `plain_run` is one about `run_list`.
 use Rattle.std.specs.Prelude.{◌≡◌, ◌⊎◌, ◌≢◌, ◌↔◌, Bool, true, false, List, [], ◌∷◌, ◌++◌, ℕ, ◌+◌, ◌%◌, ◌^◌, ◌≤◌, ◌<◌, T, Float, ℤ, pos, negsuc, length}

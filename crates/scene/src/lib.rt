@@ -10,7 +10,8 @@ use records::joint::{JointSim, unused_joint};
 use solver::StepContext;
 
 // At most 32 joints and 32 bodies, with a count of each, and one step context. A count is whatever
-// the caller hands over; a joint's slot is its index in `joints`.
+// the caller hands over; a joint's slot is its index in `joints`. Document 01: "the scene keeps joints and
+// bodies in arrays handed over whole", and a count above 32 is a cause.
 #[derive(Clone, Copy)]
 pub struct Scene {
     pub joints: [JointSim; 32],

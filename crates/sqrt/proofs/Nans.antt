@@ -1,7 +1,7 @@
 -- What is a NaN, and what is none: a float that equals itself. Assumes nothing.
-use Rattle.std.proofs.Common.{◌≡◌, true, false, not, T, sym, refl}
+use Rattle.std.proofs.Common.{◌≡◌, true, refl}
 use mathlib.Core.Bool.{false≢true}
-use lib.Ieee.{Float, nan, inf, fin, eq, ne, is_nan}
+use lib.Ieee.{Float, nan, inf, fin, is_nan}
 
 pub a_nan : (x : Float) → is_nan x ≡ true → x ≡ nan
 unfolding is_nan

@@ -5,7 +5,7 @@ use native.Mathlib.Nat.{lt_of_not-le}
 use native.Mathlib.Omega.{arith}
 use Rattle.std.proofs.lemmas.Result.{err_from_is_err_and}
 use Rattle.scene.proofs.Accepted.{verdict_answers}
-use Rattle.list_check.proofs.Lists.{caused}
+use Rattle.records.proofs.Causes.{caused}
 use Rattle.call_list.proofs.Run.{refused_is, done_is}
 use Rattle.call_list.proofs.run_list.Goals as goal
 

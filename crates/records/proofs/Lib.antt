@@ -1,0 +1,2 @@
+-- What proofs of the crates above cite. Assumes nothing.
+pub mod Causes
