@@ -62,7 +62,7 @@ fn make<F: Fn(&mut JointSim, &mut [BodyState]) -> Answer>(
 }
 
 // The calls of any direct call `c` that `call` makes.
-pub fn lend_calls<F: Fn(&mut JointSim, &mut [BodyState]) -> Answer>(
+fn lend_calls<F: Fn(&mut JointSim, &mut [BodyState]) -> Answer>(
     mut joint: JointSim,
     mut states: [BodyState; 40],
     body_count: usize,
