@@ -9,7 +9,7 @@ use constraint::angular::{
 };
 use constraint::answer::Report;
 use constraint::kind::KindSolved;
-use constraint::point::{point_bias, point_cdot, point_row};
+use constraint::point::{PointRow, point_bias, point_cdot, point_row};
 use constraint::rotation::{RelativeRotation, relative_rotation};
 use constraint::soft::LimitSoftness;
 use constraint::velocity::{InvMasses, Velocities, anchors_of, inv_masses_of, velocities_of};
@@ -132,6 +132,26 @@ fn solve_cone(
     )
 }
 
+// The joint with the impulses that its rows leave.
+fn with_impulses(
+    mut joint: SphericalJoint,
+    point: PointRow,
+    spring: Row<Vec3>,
+    motor: Row<Vec3>,
+    limits: LimitRows,
+    cone: Row<f32>,
+) -> SphericalJoint
+    ensures { result ≡ D.with_impulses joint point.impulse spring.impulse motor.impulse limits.lower_impulse limits.upper_impulse cone.impulse }
+{
+    joint.linear_impulse = point.impulse;
+    joint.spring_impulse = spring.impulse;
+    joint.motor_impulse = motor.impulse;
+    joint.lower_twist_impulse = limits.lower_impulse;
+    joint.upper_twist_impulse = limits.upper_impulse;
+    joint.swing_impulse = cone.impulse;
+    joint
+}
+
 // What waits for no velocity (the cone's angle, the anchors and the point row's bias) is computed a
 // row before the row that needs it, so that the processor has it to do while rows wait for each other.
 #[tactic(auto, unfolding(crate::specs::Spherical::solve_spherical, crate::specs::Spherical::solve_point, crate::specs::Spherical::solve_bias))]
@@ -167,21 +187,12 @@ pub fn solve_spherical(
     let v = cone.velocities;
     let cdot = point_cdot(anchors, v);
     let point = point_row(bias, cdot, anchors, joint.linear_impulse, m, v);
-
-    let linear_impulse = point.impulse;
-    let spring_impulse = spring.impulse;
-    let motor_impulse = motor.impulse;
+    joint = with_impulses(joint, point, spring, motor, limits, cone);
     let velocities = point.velocities;
     let report = Report {
         perp_mark: None,
         point_mark: Some(point.mark),
     };
-    joint.linear_impulse = linear_impulse;
-    joint.spring_impulse = spring_impulse;
-    joint.motor_impulse = motor_impulse;
-    joint.lower_twist_impulse = limits.lower_impulse;
-    joint.upper_twist_impulse = limits.upper_impulse;
-    joint.swing_impulse = cone.impulse;
     KindSolved {
         joint,
         angles: LimitAngles { twist, swing },
