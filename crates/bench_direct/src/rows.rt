@@ -6,6 +6,7 @@ use lent_calls::{
     lend_warm_start_revolute_joint, lend_warm_start_spherical_joint, lend_warm_start_weld_joint,
 };
 
+// A row is one of the six calls by name, which are what is timed.
 fn warm_start(kind: Kind, gate: Gate, calls: u64) -> Lent {
     let states = gate.states;
     match kind {

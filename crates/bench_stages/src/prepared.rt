@@ -22,6 +22,7 @@ fn add_base(sum: u32, base: JointBase) -> u32 {
     add_matrix(add_matrix(s, base.inv_i_a), base.inv_i_b)
 }
 
+// A kind's sum goes through the fields of its own record.
 fn add_revolute(sum: u32, j: RevoluteJoint) -> u32 {
     let s = add_transform(add_transform(sum, j.frame_a), j.frame_b);
     let s = add_vec3(add_vec3(s, j.delta_center), j.rotation_axis_z);

@@ -6,7 +6,8 @@ use records::body::store_velocities;
 use records::joint::JointSim;
 
 // The gates' joints after so many prepares. The other rows begin with this too, so that prepare has one
-// caller and is inlined there. The bodies are read before the joint.
+// caller and is inlined there. The bodies are read before the joint. Here and below, a gate hangs between two
+// neighbours, so that elements are told by index.
 fn prepare_joints<S: Stages>(calls: u64) -> [JointSim; 32] {
     let mut joints = unprepared_joints(S::KIND);
     let bodies = wall_bodies();

@@ -10,7 +10,8 @@ use weld::{prepare_weld_joint, solve_weld_joint, warm_start_weld_joint};
 
 // A stage reads the joint where it stands, and puts back what its call changed; a refused joint is not put
 // back. With the answers handed on whole a call takes more instructions: a revolute prepare 667 for 552, a
-// revolute solve with bias 1,735 for 1,702, a weld's 1,063 for 1,022.
+// revolute solve with bias 1,735 for 1,702, a weld's 1,063 for 1,022. A refusal is told by `if let`: by
+// `is_none`, which takes a reference, a revolute prepare had 641.
 pub trait Stages {
     const KIND: Kind;
 

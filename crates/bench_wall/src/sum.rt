@@ -36,6 +36,7 @@ pub fn add_vec3(sum: u32, v: Vec3) -> u32
     add_float(add_float(add_float(sum, v.x), v.y), v.z)
 }
 
+// A kind's sum goes through the fields of its own record.
 #[tactic(auto, unfolding(crate::specs::Sum::add_revolute))]
 fn add_revolute(sum: u32, j: RevoluteJoint) -> u32
     ensures { result ≡ D.add_revolute sum j }

@@ -17,7 +17,7 @@ use scene::Scene;
 use spherical::{solve_spherical_joint, warm_start_spherical_joint};
 use weld::{solve_weld_joint, warm_start_weld_joint};
 
-// The joint as a solve leaves it.
+// The joint as a solve leaves it: by a function the array's element is stored from the answer in place.
 fn solved_joint(solved: Solved) -> JointSim
     ensures { result ≡ solved.joint }
 {
@@ -39,7 +39,8 @@ fn scene_left(scene: Scene, joints: [JointSim; 32], bodies: [BodyState; 33]) -> 
     }
 }
 
-// The calls in order, each on what the one before it left; a last byte by itself is none. Bodies and joints
+// The calls in order, each on what the one before it left; a last byte by itself is none. A stage is a byte
+// of the list, and one above 2, which a run refuses, is worked as 2. Bodies and joints
 // are read and stored one element at a time; index -1 leads to the last position of `bodies`, which holds
 // the identity state. The joint is read in each arm, so that only what its stage needs is loaded, and stored
 // there by a solve, so that only what the solve changes is written. Bodies are read again before they are

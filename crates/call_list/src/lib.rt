@@ -15,7 +15,7 @@ mod calls;
 mod positions;
 mod still;
 
-// Whether the first `count` bodies kept their velocities.
+// Whether the first `count` bodies kept their velocities. (By `zip` and `all` no proof was found.)
 fn is_still(count: u32, before: [BodyState; 32], after: [BodyState; 32]) -> bool
     requires { count ≤ 32 }
     ensures { result ≡ same_below count before after }

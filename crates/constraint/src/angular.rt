@@ -60,7 +60,7 @@ pub fn is_worked(enabled: bool, fixed_rotation: bool) -> bool
 
 // The angle of a twist limit and of the cone where its rows are worked, and NaN where not: what they are
 // handed, and what a solve stores. It waits for no velocity, so a spherical solve takes the cone's a row
-// ahead.
+// ahead. (Two functions: to hand over which angle would take a closure for one call.)
 #[tactic(auto, unfolding(crate::specs::Angular::twist_angle_if))]
 pub fn twist_angle_if(worked: bool, rel_q: Quat) -> f32
     ensures { result ≡ D.twist_angle_if worked rel_q }

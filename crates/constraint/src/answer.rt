@@ -2,8 +2,8 @@
 // it was, with the velocities as they were, and nothing is reported.
 //
 // The joint stands in every answer, and the refusal beside it, last: a `Result` of so large a record is
-// copied once more, which is up to 10 in a hundred more instructions, and a byte before the joint costs a
-// copy too (docs/PERFORMANCE.md).
+// copied once more: lists of solves and some prepares then take more than the Rust's time, and a byte before
+// the joint costs a copy too (docs/PERFORMANCE.md).
 ghost use Rattle.std.specs.Prelude.{◌≡◌};
 ghost use Rattle.constraint.specs.Answer as D;
 

@@ -18,7 +18,8 @@ mod positions;
 mod states;
 
 // What a direct call answers: what a solve reports of its rows, and the cause of a refusal, whose place is
-// 0. As a `Result` it makes warm starts 30 in a hundred slower (docs/PERFORMANCE.md).
+// 0. As a `Result` it makes warm starts 14 to 26 in a hundred slower, above the
+// Rust's time (docs/PERFORMANCE.md).
 #[derive(Clone, Copy)]
 pub struct Answer {
     pub report: Report,

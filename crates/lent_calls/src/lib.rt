@@ -26,7 +26,8 @@ pub struct Lent {
 }
 
 // How many states are lent: the body count, or all of them where there are not as many.
-// Speed: by `min` a revolute warm start in bench_direct has 328 instructions, so it has 280.
+// Speed: by `min` a revolute warm start in bench_direct has 328 instructions, and 280 without it, on one
+// code.
 fn lent_count(body_count: usize) -> usize
     ensures { result ≡ min body_count 40 }
 {
@@ -151,7 +152,8 @@ pub fn lend_solve_spherical_joint(
 }
 
 // Speed: by `lend_calls`, as the others, a weld's solve in bench_direct has 1,290 instructions, so it has
-// 1,208. The first call stands before the loop, so that the direct call has two callers and stays a call.
+// 1,208. The first call stands before the loop, so that the direct call has two callers and stays a call, and
+// the loop counts on from it.
 pub fn lend_solve_weld_joint(
     mut joint: JointSim,
     context: StepContext,

@@ -43,7 +43,7 @@ fn is_past(joint_count: u32, slot: u8) -> bool
     joint_count <= slot as u32
 }
 
-// The tests of a call whose slot holds a joint, of which `of_joint` tells.
+// The tests of a call whose slot holds a joint, of which `of_joint` tells. The stage is a byte of the list.
 fn check_stage(of_joint: Result<(), Cause>, stage: u8) -> Result<(), Cause>
     ensures { tested result ≡ stage_cause (tested of_joint) stage }
 {

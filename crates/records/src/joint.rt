@@ -374,8 +374,8 @@ pub const DEFAULT_JOINT_BASE: JointBase = JointBase {
     fixed_rotation: false,
 };
 
-// A joint that is not in use: the default, with the empty case and NaN in both angles. (No constant can
-// hold a NaN.)
+// A joint that is not in use: the default, with the empty case and NaN in both angles. (A function, since a
+// clause knows the constant NaN by a pattern only.)
 pub fn unused_joint() -> JointSim
     ensures { result ≡ D.unused_joint }
 {
@@ -387,8 +387,7 @@ pub fn unused_joint() -> JointSim
     }
 }
 
-// A joint of its three parts. (The stages of the kinds, which are timed, put theirs together
-// themselves.)
+// A joint of its three parts.
 pub fn joint_sim(base: JointBase, union_: JointUnion, angles: LimitAngles) -> JointSim
     ensures { result ≡ D.joint_sim base union_ angles }
 {

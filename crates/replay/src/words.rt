@@ -19,13 +19,13 @@ pub fn word(p: &[u8], i: usize) -> u32
     0
 }
 
-// The float of a pattern. A NaN's pattern, without its sign, is above infinity's. Rattle makes no
-// float of one, so a NaN is made by an operation.
+// The float of a pattern. A NaN's pattern, without its sign, is above infinity's. No float
+// is made of one here, since all NaNs are one.
 pub fn float_of(bits: u32) -> f32
     ensures { result ≡ from_bits binary32 bits }
 {
     if bits % 2147483648 > 2139095040 {
-        return 0.0 / 0.0;
+        return f32::NAN;
     }
     f32::from_bits(bits)
 }

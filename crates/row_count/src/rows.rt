@@ -10,7 +10,8 @@ pub fn rows_if(worked: bool, n: u32) -> u32
     if worked { n } else { 0 }
 }
 
-// Spring, motor, the limit's two, one more (revolute's perpendicular axes, spherical's cone), point.
+// Of revolute and spherical, which differ in the names of their switches: spring, motor, the limit's two, one
+// more (revolute's perpendicular axes, spherical's cone), point.
 #[tactic(auto, unfolding(crate::specs::Rows::sum_rows))]
 pub fn sum_rows(spring: bool, motor: bool, limits: bool, perp_or_cone: bool) -> u32
     ensures { result ≡ D.sum_rows spring motor limits perp_or_cone }

@@ -1,5 +1,7 @@
 // The spherical joint: a ball in its socket, with a spring, a motor, a twist limit and a cone. Its
 // three stages, over a joint of any kind.
+// Each of the three is document 01's by name: it opens this kind's record and calls this kind's stage, which
+// a function over a trait of the kinds would have to be told of three times.
 #![tactic(auto)]
 
 ghost use Rattle.std.specs.Prelude.{◌≡◌};

@@ -32,7 +32,7 @@ fn is_at_upper(enabled: bool, impulse: f32, upper_angle: f32, angle: f32) -> boo
     is_pushing(enabled, impulse) && upper_angle <= angle
 }
 
-// 1 for the lower stop, plus 2 for the upper, plus 4 for the cone.
+// 1 for the lower stop, plus 2 for the upper, plus 4 for the cone: a number, as document 01 gives it.
 #[tactic(auto, unfolding(crate::specs::StopCode::sum_stops))]
 fn sum_stops(lower: bool, upper: bool, cone: bool) -> u32
     ensures { result ≡ D.sum_stops lower upper cone }
@@ -40,6 +40,7 @@ fn sum_stops(lower: bool, upper: bool, cone: bool) -> u32
     u32::from(lower) + 2 * u32::from(upper) + 4 * u32::from(cone)
 }
 
+// The two kinds' limits have other names, and only a spherical joint has a cone.
 #[tactic(auto, unfolding(crate::specs::StopCode::revolute_stops))]
 fn revolute_stops(j: RevoluteJoint, angles: LimitAngles) -> u32
     ensures { result ≡ D.revolute_stops j angles }

@@ -1,5 +1,7 @@
 // The weld joint: a rigid connection (optionally softened by linear/angular springs) that locks the
 // relative position and orientation of two frames. Its three stages, over a joint of any kind.
+// Each of the three is document 01's by name: it opens this kind's record and calls this kind's stage, which
+// a function over a trait of the kinds would have to be told of three times.
 #![tactic(auto)]
 
 ghost use Rattle.std.specs.Prelude.{◌≡◌};
