@@ -1,13 +1,14 @@
--- Laws on single elements of the arrays: a body's position, what is read and stored there, and the first elements of an array. Assumes nothing.
+-- Laws on single elements of the arrays: a body's position, what is read and stored there, filling an array, and the first elements of one. Assumes nothing.
 use mathlib.Core.Path.{◌≡◌, sym, ap, ◌∙◌, refl}
 use mathlib.Core.Bool.{Bool, true, false, cond}
-use mathlib.Core.List.{List, [], ◌∷◌}
-use Prim.Native.Nat.{ℕ, ◌≤◌, ◌<◌}
+use mathlib.Core.List.{List, [], ◌∷◌, ◌++◌, append_assoc}
+use Prim.Native.Nat.{ℕ, suc, ◌+◌, ◌≤◌, ◌<◌}
+use native.Mathlib.Numerals.{add-one}
 use native.Mathlib.Omega.{arith}
 use lib.Dec.{ltb}
 use lib.IntN.{ℤ, pos, negsuc}
-use lib.ListN.{length, get_or, set, take, get_or-append, get_or-eq_default}
-use lib.Seq.{set_out, set_at, set-append_left, get_or_at, length-take-le}
+use lib.ListN.{length, get_or, set, take, drop, replicate, get_or-append, get_or-eq_default}
+use lib.Seq.{set_out, set_at, set-append_left, take_all, take-suc, drop-cons, get_or_at, length-take-le}
 use borrow.Author.Tests.{lt-ltb, ltb-true, ltb-false}
 use Rattle.math_functions.specs.declared.types.Vec3.{Vec3}
 use Rattle.records.specs.declared.body.BodyState.{BodyState}
@@ -81,6 +82,21 @@ kept_is us long (pos n) y d v w e = by (ltb n 32) refl e
 -- a store keeps the count
 pub store_long : (us : List BodyState) (z : ℤ) (v w : Vec3) → length us ≡ 32 → length (store us z v w) ≡ 32
 store_long us z v w h = Stores.store_long us z v w ∙ h
+
+-- ---- filling an array from another, one element after the other, with the identity state after it
+
+pub fill_more {ℓ} : {A : Type ℓ} (bs o w : List A) (k : ℕ) (d : A) → w ≡ take k bs ++ drop k o → k < length bs → k < length o
+    → set w k (get_or bs k d) ≡ take (k + 1) bs ++ drop (k + 1) o
+fill_more bs o w k d e h g =
+    let n : length (take k bs) ≡ k = length-take-le k bs (omega arith) in
+    rw (e, add-one k, drop-cons o k d g, take-suc bs k d h)
+    (set_at (take k bs) (get_or o k d) (drop (suc k) o) (get_or bs k d) k n ∙ sym (append_assoc (take k bs) (get_or bs k d ∷ []) (drop (suc k) o)))
+
+pub fill_33 : (bs w : List BodyState) (k : ℕ) → length bs ≡ 32 → k ≡ 32 → w ≡ take k bs ++ drop k (replicate 33 identity_body_state) → w ≡ with_identity bs
+unfolding with_identity
+fill_33 bs w k long e q =
+    let n : length bs ≤ 32 = omega arith in
+    q ∙ rw e (ap (λ l. l ++ (identity_body_state ∷ [])) (take_all 32 bs n))
 
 -- ---- an array of the first elements of another
 
