@@ -143,26 +143,6 @@ fn solve_perp(
     )
 }
 
-// The point row at the fields of the joint and the states. Computed a row ahead, as the other kinds' are,
-// its anchors and bias cost the lists of solves in the program bench 3 to 5 in a hundred of their time.
-fn solve_point(
-    softness: Softness,
-    joint: RevoluteJoint,
-    state_a: BodyState,
-    state_b: BodyState,
-    use_bias: bool,
-    m: InvMasses,
-    v: Velocities,
-) -> PointRow
-    ensures { result ≡ D.solve_point softness joint state_a state_b use_bias m v }
-{
-    let anchors = anchors_of(joint.frame_a, joint.frame_b, state_a, state_b);
-    let cdot = point_cdot(anchors, v);
-    let center = joint.delta_center;
-    let bias = point_bias(use_bias, softness, anchors, center, state_a, state_b);
-    point_row(bias, cdot, anchors, joint.linear_impulse, m, v)
-}
-
 // The joint with the impulses and the perpendicular axes that its rows leave.
 fn with_impulses(
     mut joint: RevoluteJoint,
@@ -186,8 +166,9 @@ fn with_impulses(
     joint
 }
 
-// The rows in order, each on the velocities that the row before it left.
-#[tactic(auto, unfolding(crate::specs::Revolute::solve_revolute))]
+// The rows in order, each on the velocities that the row before it left. The anchors and the point row's
+// bias wait for no velocity: they are computed a row before that row.
+#[tactic(auto, using(crate::proofs::Point::point_row_is), unfolding(crate::specs::Revolute::solve_revolute, crate::specs::Revolute::solve_point))]
 pub fn solve_revolute(
     base: JointBase,
     mut joint: RevoluteJoint,
@@ -214,8 +195,12 @@ pub fn solve_revolute(
         use_bias,
     };
     let limits = solve_limits(fixed, joint, twist, soft, m, v);
+    let anchors = anchors_of(joint.frame_a, joint.frame_b, state_a, state_b);
+    let bias = point_bias(use_bias, s, anchors, joint.delta_center, state_a, state_b);
     let perp = solve_perp(fixed, s, joint, turn, use_bias, m, limits.velocities);
-    let point = solve_point(s, joint, state_a, state_b, use_bias, m, perp.velocities);
+    let v = perp.velocities;
+    let cdot = point_cdot(anchors, v);
+    let point = point_row(bias, cdot, anchors, joint.linear_impulse, m, v);
     joint = with_impulses(joint, point, perp, spring, motor, limits);
     let angles = LimitAngles {
         twist,
