@@ -95,7 +95,7 @@ pub fn joint_position(slot: u8) -> usize
 }
 
 // The bodies of a scene, and the identity state after them. By `copy_from_slice` the lists of solves in the
-// program bench take 3 to 5 in a hundred more time.
+// program bench take some 5 in a hundred more time.
 pub fn with_identity(scene: Scene) -> [BodyState; 33]
     ensures { result ≡ D.with_identity scene.bodies }
 {
