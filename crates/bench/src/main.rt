@@ -5,7 +5,7 @@
 mod leaves;
 mod lists;
 
-use bench_wall::rows::work_rows;
+use bench_wall::rows::{Rows, work_rows};
 use bench_wall::wall::Kind;
 use leaves::{arctangents, roots};
 use lists::run_lists;
@@ -21,20 +21,24 @@ fn kind_of(number: u8) -> Option<Kind> {
     }
 }
 
-// The checksum of a row. Each repeat makes 4,096 calls.
-fn work(row: u8, repeats: u32) -> u32 {
-    let calls = 4096 * u64::from(repeats);
-    match row {
-        16 => roots(calls),
-        17 => arctangents(calls),
-        _ => run_lists(
-            kind_of(row / 4),
-            Some(row % 4).filter(|stage| *stage < 3),
-            repeats,
-        ),
+struct CallLists;
+
+impl Rows for CallLists {
+    // Each repeat makes 4,096 calls.
+    fn work(row: u8, repeats: u32) -> u32 {
+        let calls = 4096 * u64::from(repeats);
+        match row {
+            16 => roots(calls),
+            17 => arctangents(calls),
+            _ => run_lists(
+                kind_of(row / 4),
+                Some(row % 4).filter(|stage| *stage < 3),
+                repeats,
+            ),
+        }
     }
 }
 
 fn main(rt: HostRuntime) -> io::Result<()> {
-    work_rows(&rt, 0..18, work)
+    work_rows::<CallLists, _>(&rt, 0..18)
 }

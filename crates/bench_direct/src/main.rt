@@ -5,25 +5,29 @@
 mod gate;
 mod rows;
 
-use bench_wall::rows::work_rows;
+use bench_wall::rows::{Rows, work_rows};
 use bench_wall::wall::Kind;
 use rows::{solves, warm_starts};
 use std::io;
 
-// The checksum of a row. Each repeat makes 4,096 calls.
-fn work(row: u8, repeats: u32) -> u32 {
-    let calls = 4096 * u64::from(repeats);
-    match row {
-        30 => warm_starts(Kind::Revolute, calls),
-        31 | 32 => solves(Kind::Revolute, row == 31, calls),
-        33 => warm_starts(Kind::Spherical, calls),
-        34 | 35 => solves(Kind::Spherical, row == 34, calls),
-        36 => warm_starts(Kind::Weld, calls),
-        _ => solves(Kind::Weld, row == 37, calls),
+struct DirectCalls;
+
+impl Rows for DirectCalls {
+    // Each repeat makes 4,096 calls.
+    fn work(row: u8, repeats: u32) -> u32 {
+        let calls = 4096 * u64::from(repeats);
+        match row {
+            30 => warm_starts(Kind::Revolute, calls),
+            31 | 32 => solves(Kind::Revolute, row == 31, calls),
+            33 => warm_starts(Kind::Spherical, calls),
+            34 | 35 => solves(Kind::Spherical, row == 34, calls),
+            36 => warm_starts(Kind::Weld, calls),
+            _ => solves(Kind::Weld, row == 37, calls),
+        }
     }
 }
 
 // The rows of the bench before these are those of the programs bench and bench_stages.
 fn main(rt: HostRuntime) -> io::Result<()> {
-    work_rows(&rt, 30..39, work)
+    work_rows::<DirectCalls, _>(&rt, 30..39)
 }

@@ -7,28 +7,32 @@ mod prepared;
 mod rows;
 mod stages;
 
-use bench_wall::rows::work_rows;
+use bench_wall::rows::{Rows, work_rows};
 use rows::{prepares, solves, warm_starts};
 use stages::{Revolute, Spherical, Weld};
 use std::io;
 
-// The checksum of a row. Each repeat makes 4,096 calls.
-fn work(row: u8, repeats: u32) -> u32 {
-    let calls = 4096 * u64::from(repeats);
-    match row {
-        18 => warm_starts::<Revolute>(calls),
-        19 | 20 => solves::<Revolute>(row == 19, calls),
-        21 => prepares::<Revolute>(calls),
-        22 => warm_starts::<Spherical>(calls),
-        23 | 24 => solves::<Spherical>(row == 23, calls),
-        25 => prepares::<Spherical>(calls),
-        26 => warm_starts::<Weld>(calls),
-        27 | 28 => solves::<Weld>(row == 27, calls),
-        _ => prepares::<Weld>(calls),
+struct StagesByValue;
+
+impl Rows for StagesByValue {
+    // Each repeat makes 4,096 calls.
+    fn work(row: u8, repeats: u32) -> u32 {
+        let calls = 4096 * u64::from(repeats);
+        match row {
+            18 => warm_starts::<Revolute>(calls),
+            19 | 20 => solves::<Revolute>(row == 19, calls),
+            21 => prepares::<Revolute>(calls),
+            22 => warm_starts::<Spherical>(calls),
+            23 | 24 => solves::<Spherical>(row == 23, calls),
+            25 => prepares::<Spherical>(calls),
+            26 => warm_starts::<Weld>(calls),
+            27 | 28 => solves::<Weld>(row == 27, calls),
+            _ => prepares::<Weld>(calls),
+        }
     }
 }
 
 // The rows of the bench before these are the program bench's.
 fn main(rt: HostRuntime) -> io::Result<()> {
-    work_rows(&rt, 18..30, work)
+    work_rows::<StagesByValue, _>(&rt, 18..30)
 }
