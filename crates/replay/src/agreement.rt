@@ -43,6 +43,7 @@ impl Agreement {
 
 // Of what is neither an angle nor a mark.
 impl From<bool> for Agreement {
+    #[inline(always)]
     fn from(same: bool) -> Agreement {
         Agreement {
             same,
@@ -56,6 +57,7 @@ impl From<bool> for Agreement {
 impl BitAnd for Agreement {
     type Output = Agreement;
 
+    #[inline(always)]
     fn bitand(self, other: Agreement) -> Agreement {
         Agreement {
             same: self.same & other.same,

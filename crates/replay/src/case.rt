@@ -1,7 +1,7 @@
 // A case as it is worked: the words that are still to come, and what comparing came to up to there.
 use crate::agreement::Agreement;
 use crate::joint_words::{Kind, OfKind};
-use crate::words::{Answer, Input, Words};
+use crate::words::{Answer, Floats, Input, Words};
 use records::joint::JointSim;
 
 #[derive(Clone, Copy)]
@@ -31,7 +31,7 @@ impl<'a> Case<'a> {
     // What is read of the inputs is compared with their words too: those of a switch that is neither 0
     // nor 1, and of a type that there is not, differ from what is read.
     fn check<T: Answer>(&mut self, mut words: Words<'a>, x: T) {
-        self.expect(words.compare(x).is_all());
+        self.expect(words.compare(&x).is_all());
     }
 
     // The next of the inputs.
@@ -46,7 +46,7 @@ impl<'a> Case<'a> {
     pub fn joint(&mut self, kind: Kind) -> JointSim {
         let words = self.words;
         let joint = kind.joint(&mut self.words);
-        self.check(words, OfKind(kind, joint));
+        self.check(words, OfKind(kind, &joint));
         joint
     }
 
@@ -64,7 +64,7 @@ impl<'a> Case<'a> {
 
     // The next of the answer.
     pub fn answer<T: Answer>(&mut self, x: T) {
-        let part = self.words.compare(x);
+        let part = self.words.compare(&x);
         self.also(part);
     }
 
@@ -74,11 +74,11 @@ impl<'a> Case<'a> {
     }
 }
 
-// Whether a function of the inputs answers what the case says.
-pub fn answers<X: Input, Y: Answer, F: Fn(X) -> Y>(mut case: Case<'_>, f: F) -> Agreement
+// Whether a function of floats answers what the case says.
+pub fn answers<X: Floats, Y: Answer, F: Fn(X) -> Y>(mut case: Case<'_>, f: F) -> Agreement
     requires { F.IsAlwaysCallable f }
 {
-    let x: X = case.input();
+    let x: X = case.words.read();
     case.answer(f(x));
     case.end()
 }

@@ -11,6 +11,7 @@ pub struct Tally {
 }
 
 impl Tally {
+    #[inline(always)]
     pub fn one(same: bool) -> Tally {
         Tally {
             compared: 1,
@@ -26,6 +27,7 @@ impl Tally {
 impl Add for Tally {
     type Output = Tally;
 
+    #[inline(always)]
     fn add(self, other: Tally) -> Tally {
         Tally {
             compared: self.compared.wrapping_add(other.compared),

@@ -27,7 +27,7 @@ fn count_of(case: &mut Case<'_>) -> u32 {
 fn left(mut case: Case<'_>, kind: Kind, count: u32, lent: Lent) -> Agreement {
     let r = Outcome::from(lent);
     case.answer(r.number_and_place());
-    case.answer(OfKind(kind, r.joint));
+    case.answer(OfKind(kind, &r.joint));
     answer_states(&mut case, count, &r.left);
     case.answer(r.marks);
     case.end()

@@ -14,8 +14,8 @@ pub enum Kind {
 }
 
 impl Answer for Kind {
-    fn compare(self, words: &mut Words<'_>) -> Agreement {
-        words.compare(self as u32)
+    fn compare(&self, words: &mut Words<'_>) -> Agreement {
+        words.compare(&(*self as u32))
     }
 }
 
@@ -60,6 +60,7 @@ impl Kind {
 }
 
 impl Input for LimitAngles {
+    #[inline(always)]
     fn read(words: &mut Words<'_>) -> LimitAngles {
         LimitAngles {
             twist: words.read(),
@@ -70,20 +71,22 @@ impl Input for LimitAngles {
 
 // The angles are counted apart.
 impl Answer for LimitAngles {
-    fn compare(self, words: &mut Words<'_>) -> Agreement {
-        let twist = words.compare(self.twist);
-        let swing = words.compare(self.swing);
+    #[inline(always)]
+    fn compare(&self, words: &mut Words<'_>) -> Agreement {
+        let twist = words.compare(&self.twist);
+        let swing = words.compare(&self.swing);
         Agreement::of_angle(twist.same) & Agreement::of_angle(swing.same)
     }
 }
 
 // What is to be the record of a case.
 #[derive(Clone, Copy)]
-struct UnionOfKind(Kind, JointUnion);
+struct UnionOfKind<'a>(Kind, &'a JointUnion);
 
 // Whether a record is of the case, and the words are its. Where it is not, those of the case's are passed.
-impl Answer for UnionOfKind {
-    fn compare(self, words: &mut Words<'_>) -> Agreement {
+impl Answer for UnionOfKind<'_> {
+    #[inline(always)]
+    fn compare(&self, words: &mut Words<'_>) -> Agreement {
         match (self.0, self.1) {
             (Kind::Revolute, JointUnion::Revolute(j)) => words.compare(j),
             (Kind::Spherical, JointUnion::Spherical(j)) => words.compare(j),
@@ -99,23 +102,23 @@ impl Answer for UnionOfKind {
 
 // What is to be a joint of a case.
 #[derive(Clone, Copy)]
-pub struct OfKind(pub Kind, pub JointSim);
+pub struct OfKind<'a>(pub Kind, pub &'a JointSim);
 
-impl Answer for OfKind {
-    fn compare(self, words: &mut Words<'_>) -> Agreement {
+impl Answer for OfKind<'_> {
+    fn compare(&self, words: &mut Words<'_>) -> Agreement {
         let joint = self.1;
-        words.compare(joint.base)
-            & words.compare(joint.angles)
-            & words.compare(UnionOfKind(self.0, joint.union_))
+        words.compare(&joint.base)
+            & words.compare(&joint.angles)
+            & words.compare(&UnionOfKind(self.0, &joint.union_))
     }
 }
 
 // A joint after the number of its case.
 impl Answer for JointSim {
-    fn compare(self, words: &mut Words<'_>) -> Agreement {
+    fn compare(&self, words: &mut Words<'_>) -> Agreement {
         let mut ahead = *words;
         let kind: Kind = ahead.read();
-        words.compare(kind) & words.compare(OfKind(kind, self))
+        words.compare(&kind) & words.compare(&OfKind(kind, self))
     }
 }
 

@@ -1,6 +1,6 @@
 // The words of the numbers and of what the leaves take and answer.
 use crate::agreement::Agreement;
-use crate::words::{Answer, Input, Words, float_of};
+use crate::words::{Answer, Floats, Input, Words, float_of};
 use math_functions::mark::{Mark, Marked};
 use math_functions::matrix::Mat2;
 use math_functions::types::{Matrix3, Quat, Transform, Vec2, Vec3};
@@ -15,12 +15,14 @@ fn same(x: f32, bits: u32) -> bool {
 }
 
 impl Answer for u32 {
-    fn compare(self, words: &mut Words<'_>) -> Agreement {
-        Agreement::from(words.word() == self)
+    #[inline(always)]
+    fn compare(&self, words: &mut Words<'_>) -> Agreement {
+        Agreement::from(words.word() == *self)
     }
 }
 
 impl Input for u32 {
+    #[inline(always)]
     fn read(words: &mut Words<'_>) -> u32 {
         words.word()
     }
@@ -28,48 +30,56 @@ impl Input for u32 {
 
 // Two's complement.
 impl Answer for i32 {
-    fn compare(self, words: &mut Words<'_>) -> Agreement {
-        words.compare(self.cast_unsigned())
+    #[inline(always)]
+    fn compare(&self, words: &mut Words<'_>) -> Agreement {
+        words.compare(&self.cast_unsigned())
     }
 }
 
 impl Input for i32 {
+    #[inline(always)]
     fn read(words: &mut Words<'_>) -> i32 {
         words.word().cast_signed()
     }
 }
 
 impl Answer for bool {
-    fn compare(self, words: &mut Words<'_>) -> Agreement {
-        words.compare(u32::from(self))
+    #[inline(always)]
+    fn compare(&self, words: &mut Words<'_>) -> Agreement {
+        words.compare(&u32::from(*self))
     }
 }
 
 impl Input for bool {
+    #[inline(always)]
     fn read(words: &mut Words<'_>) -> bool {
         words.switch()
     }
 }
 
 impl Answer for f32 {
-    fn compare(self, words: &mut Words<'_>) -> Agreement {
-        Agreement::from(same(self, words.word()))
+    #[inline(always)]
+    fn compare(&self, words: &mut Words<'_>) -> Agreement {
+        Agreement::from(same(*self, words.word()))
     }
 }
 
 impl Input for f32 {
+    #[inline(always)]
     fn read(words: &mut Words<'_>) -> f32 {
         words.float()
     }
 }
 
 impl Answer for Vec2 {
-    fn compare(self, words: &mut Words<'_>) -> Agreement {
-        words.compare(self.x) & words.compare(self.y)
+    #[inline(always)]
+    fn compare(&self, words: &mut Words<'_>) -> Agreement {
+        words.compare(&self.x) & words.compare(&self.y)
     }
 }
 
 impl Input for Vec2 {
+    #[inline(always)]
     fn read(words: &mut Words<'_>) -> Vec2 {
         Vec2 {
             x: words.read(),
@@ -79,12 +89,14 @@ impl Input for Vec2 {
 }
 
 impl Answer for Vec3 {
-    fn compare(self, words: &mut Words<'_>) -> Agreement {
-        words.compare(self.x) & words.compare(self.y) & words.compare(self.z)
+    #[inline(always)]
+    fn compare(&self, words: &mut Words<'_>) -> Agreement {
+        words.compare(&self.x) & words.compare(&self.y) & words.compare(&self.z)
     }
 }
 
 impl Input for Vec3 {
+    #[inline(always)]
     fn read(words: &mut Words<'_>) -> Vec3 {
         Vec3 {
             x: words.read(),
@@ -95,12 +107,14 @@ impl Input for Vec3 {
 }
 
 impl Answer for Quat {
-    fn compare(self, words: &mut Words<'_>) -> Agreement {
-        words.compare(self.v) & words.compare(self.s)
+    #[inline(always)]
+    fn compare(&self, words: &mut Words<'_>) -> Agreement {
+        words.compare(&self.v) & words.compare(&self.s)
     }
 }
 
 impl Input for Quat {
+    #[inline(always)]
     fn read(words: &mut Words<'_>) -> Quat {
         Quat {
             v: words.read(),
@@ -110,12 +124,14 @@ impl Input for Quat {
 }
 
 impl Answer for Mat2 {
-    fn compare(self, words: &mut Words<'_>) -> Agreement {
-        words.compare(self.cx) & words.compare(self.cy)
+    #[inline(always)]
+    fn compare(&self, words: &mut Words<'_>) -> Agreement {
+        words.compare(&self.cx) & words.compare(&self.cy)
     }
 }
 
 impl Input for Mat2 {
+    #[inline(always)]
     fn read(words: &mut Words<'_>) -> Mat2 {
         Mat2 {
             cx: words.read(),
@@ -125,12 +141,14 @@ impl Input for Mat2 {
 }
 
 impl Answer for Matrix3 {
-    fn compare(self, words: &mut Words<'_>) -> Agreement {
-        words.compare(self.cx) & words.compare(self.cy) & words.compare(self.cz)
+    #[inline(always)]
+    fn compare(&self, words: &mut Words<'_>) -> Agreement {
+        words.compare(&self.cx) & words.compare(&self.cy) & words.compare(&self.cz)
     }
 }
 
 impl Input for Matrix3 {
+    #[inline(always)]
     fn read(words: &mut Words<'_>) -> Matrix3 {
         Matrix3 {
             cx: words.read(),
@@ -141,12 +159,14 @@ impl Input for Matrix3 {
 }
 
 impl Answer for Transform {
-    fn compare(self, words: &mut Words<'_>) -> Agreement {
-        words.compare(self.p) & words.compare(self.q)
+    #[inline(always)]
+    fn compare(&self, words: &mut Words<'_>) -> Agreement {
+        words.compare(&self.p) & words.compare(&self.q)
     }
 }
 
 impl Input for Transform {
+    #[inline(always)]
     fn read(words: &mut Words<'_>) -> Transform {
         Transform {
             p: words.read(),
@@ -156,14 +176,16 @@ impl Input for Transform {
 }
 
 impl Answer for Softness {
-    fn compare(self, words: &mut Words<'_>) -> Agreement {
-        words.compare(self.bias_rate)
-            & words.compare(self.mass_scale)
-            & words.compare(self.impulse_scale)
+    #[inline(always)]
+    fn compare(&self, words: &mut Words<'_>) -> Agreement {
+        words.compare(&self.bias_rate)
+            & words.compare(&self.mass_scale)
+            & words.compare(&self.impulse_scale)
     }
 }
 
 impl Input for Softness {
+    #[inline(always)]
     fn read(words: &mut Words<'_>) -> Softness {
         Softness {
             bias_rate: words.read(),
@@ -175,30 +197,35 @@ impl Input for Softness {
 
 // Inputs that stand one after the other, and parts of an answer.
 impl Answer for () {
-    fn compare(self, _words: &mut Words<'_>) -> Agreement {
+    #[inline(always)]
+    fn compare(&self, _words: &mut Words<'_>) -> Agreement {
         Agreement::from(true)
     }
 }
 
 impl<X: Answer, Y: Answer> Answer for (X, Y) {
-    fn compare(self, words: &mut Words<'_>) -> Agreement {
-        words.compare(self.0) & words.compare(self.1)
+    #[inline(always)]
+    fn compare(&self, words: &mut Words<'_>) -> Agreement {
+        words.compare(&self.0) & words.compare(&self.1)
     }
 }
 
 impl<X: Input, Y: Input> Input for (X, Y) {
+    #[inline(always)]
     fn read(words: &mut Words<'_>) -> (X, Y) {
         (words.read(), words.read())
     }
 }
 
 impl<X: Answer, Y: Answer, Z: Answer> Answer for (X, Y, Z) {
-    fn compare(self, words: &mut Words<'_>) -> Agreement {
-        words.compare(self.0) & words.compare(self.1) & words.compare(self.2)
+    #[inline(always)]
+    fn compare(&self, words: &mut Words<'_>) -> Agreement {
+        words.compare(&self.0) & words.compare(&self.1) & words.compare(&self.2)
     }
 }
 
 impl<X: Input, Y: Input, Z: Input> Input for (X, Y, Z) {
+    #[inline(always)]
     fn read(words: &mut Words<'_>) -> (X, Y, Z) {
         (words.read(), words.read(), words.read())
     }
@@ -206,8 +233,9 @@ impl<X: Input, Y: Input, Z: Input> Input for (X, Y, Z) {
 
 // A mark: 0 for none, 1 for solved, 2 for fell back.
 impl Answer for Option<Mark> {
-    fn compare(self, words: &mut Words<'_>) -> Agreement {
-        let mark = match self {
+    #[inline(always)]
+    fn compare(&self, words: &mut Words<'_>) -> Agreement {
+        let mark = match *self {
             None => 0,
             Some(Mark::Solved) => 1,
             Some(Mark::FellBack) => 2,
@@ -218,7 +246,24 @@ impl Answer for Option<Mark> {
 
 // The answer of a leaf that may fall back to zeros has its mark last.
 impl<T: Answer> Answer for Marked<T> {
-    fn compare(self, words: &mut Words<'_>) -> Agreement {
-        words.compare((self.value, Some(self.mark)))
+    #[inline(always)]
+    fn compare(&self, words: &mut Words<'_>) -> Agreement {
+        words.compare(&self.value) & words.compare(&Some(self.mark))
     }
 }
+
+impl Floats for f32 {}
+
+impl Floats for Vec2 {}
+
+impl Floats for Vec3 {}
+
+impl Floats for Quat {}
+
+impl Floats for Mat2 {}
+
+impl Floats for Matrix3 {}
+
+impl<X: Floats, Y: Floats> Floats for (X, Y) {}
+
+impl<X: Floats, Y: Floats, Z: Floats> Floats for (X, Y, Z) {}

@@ -95,7 +95,12 @@ fn run_block(buf: &mut [u8], s: State, end: usize) -> State
             rest: Rest::Skip(block.used - there),
         };
     }
-    buf.copy_within(skip + block.used..end, 0);
+    // Where no byte was used up they stand at the start already: a long case that comes in small pieces is
+    // not copied anew with each.
+    let from = skip + block.used;
+    if from > 0 {
+        buf.copy_within(from..end, 0);
+    }
     State {
         counts,
         rest: Rest::Kept(there - block.used),

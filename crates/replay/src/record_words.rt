@@ -7,8 +7,9 @@ use records::joint::{JointBase, JointType};
 use solver::StepContext;
 
 impl Answer for JointType {
-    fn compare(self, words: &mut Words<'_>) -> Agreement {
-        words.compare(self as u32)
+    #[inline(always)]
+    fn compare(&self, words: &mut Words<'_>) -> Agreement {
+        words.compare(&(*self as u32))
     }
 }
 
@@ -30,23 +31,24 @@ impl Input for JointType {
 }
 
 impl Answer for JointBase {
-    fn compare(self, words: &mut Words<'_>) -> Agreement {
-        words.compare(self.joint_id)
-            & words.compare(self.body_id_a)
-            & words.compare(self.body_id_b)
-            & words.compare(self.type_)
-            & words.compare(self.local_frame_a)
-            & words.compare(self.local_frame_b)
-            & words.compare(self.inv_mass_a)
-            & words.compare(self.inv_mass_b)
-            & words.compare(self.inv_i_a)
-            & words.compare(self.inv_i_b)
-            & words.compare(self.constraint_hertz)
-            & words.compare(self.constraint_damping_ratio)
-            & words.compare(self.constraint_softness)
-            & words.compare(self.force_threshold)
-            & words.compare(self.torque_threshold)
-            & words.compare(self.fixed_rotation)
+    #[inline(always)]
+    fn compare(&self, words: &mut Words<'_>) -> Agreement {
+        words.compare(&self.joint_id)
+            & words.compare(&self.body_id_a)
+            & words.compare(&self.body_id_b)
+            & words.compare(&self.type_)
+            & words.compare(&self.local_frame_a)
+            & words.compare(&self.local_frame_b)
+            & words.compare(&self.inv_mass_a)
+            & words.compare(&self.inv_mass_b)
+            & words.compare(&self.inv_i_a)
+            & words.compare(&self.inv_i_b)
+            & words.compare(&self.constraint_hertz)
+            & words.compare(&self.constraint_damping_ratio)
+            & words.compare(&self.constraint_softness)
+            & words.compare(&self.force_threshold)
+            & words.compare(&self.torque_threshold)
+            & words.compare(&self.fixed_rotation)
     }
 }
 
@@ -74,18 +76,18 @@ impl Input for JointBase {
 }
 
 impl Answer for StepContext {
-    fn compare(self, words: &mut Words<'_>) -> Agreement {
-        words.compare(self.dt)
-            & words.compare(self.inv_dt)
-            & words.compare(self.h)
-            & words.compare(self.inv_h)
-            & words.compare(self.sub_step_count)
-            & words.compare(self.contact_softness)
-            & words.compare(self.static_softness)
-            & words.compare(self.restitution_threshold)
-            & words.compare(self.max_linear_velocity)
-            & words.compare(self.contact_speed)
-            & words.compare(self.enable_warm_starting)
+    fn compare(&self, words: &mut Words<'_>) -> Agreement {
+        words.compare(&self.dt)
+            & words.compare(&self.inv_dt)
+            & words.compare(&self.h)
+            & words.compare(&self.inv_h)
+            & words.compare(&self.sub_step_count)
+            & words.compare(&self.contact_softness)
+            & words.compare(&self.static_softness)
+            & words.compare(&self.restitution_threshold)
+            & words.compare(&self.max_linear_velocity)
+            & words.compare(&self.contact_speed)
+            & words.compare(&self.enable_warm_starting)
     }
 }
 
@@ -108,14 +110,14 @@ impl Input for StepContext {
 }
 
 impl Answer for BodyRecord {
-    fn compare(self, words: &mut Words<'_>) -> Agreement {
-        words.compare(self.set_index)
-            & words.compare(self.local_index)
-            & words.compare(self.inv_mass)
-            & words.compare(self.inv_inertia_world)
-            & words.compare(self.rotation)
-            & words.compare(self.center)
-            & words.compare(self.local_center)
+    fn compare(&self, words: &mut Words<'_>) -> Agreement {
+        words.compare(&self.set_index)
+            & words.compare(&self.local_index)
+            & words.compare(&self.inv_mass)
+            & words.compare(&self.inv_inertia_world)
+            & words.compare(&self.rotation)
+            & words.compare(&self.center)
+            & words.compare(&self.local_center)
     }
 }
 
@@ -134,12 +136,12 @@ impl Input for BodyRecord {
 }
 
 impl Answer for BodyState {
-    fn compare(self, words: &mut Words<'_>) -> Agreement {
-        words.compare(self.linear_velocity)
-            & words.compare(self.angular_velocity)
-            & words.compare(self.delta_position)
-            & words.compare(self.delta_rotation)
-            & words.compare(self.flags)
+    fn compare(&self, words: &mut Words<'_>) -> Agreement {
+        words.compare(&self.linear_velocity)
+            & words.compare(&self.angular_velocity)
+            & words.compare(&self.delta_position)
+            & words.compare(&self.delta_rotation)
+            & words.compare(&self.flags)
     }
 }
 

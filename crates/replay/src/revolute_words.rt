@@ -38,42 +38,45 @@ impl Input for RevoluteJoint {
 }
 
 // Whether the words before the indices are the joint's.
-fn compare_settings(j: RevoluteJoint, words: &mut Words<'_>) -> Agreement {
-    words.compare(j.linear_impulse)
-        & words.compare(j.perp_impulse)
-        & words.compare(j.spring_impulse)
-        & words.compare(j.motor_impulse)
-        & words.compare(j.lower_impulse)
-        & words.compare(j.upper_impulse)
-        & words.compare(j.hertz)
-        & words.compare(j.damping_ratio)
-        & words.compare(j.max_motor_torque)
-        & words.compare(j.motor_speed)
-        & words.compare(j.target_angle)
-        & words.compare(j.lower_angle)
-        & words.compare(j.upper_angle)
+#[inline(always)]
+fn compare_settings(j: &RevoluteJoint, words: &mut Words<'_>) -> Agreement {
+    words.compare(&j.linear_impulse)
+        & words.compare(&j.perp_impulse)
+        & words.compare(&j.spring_impulse)
+        & words.compare(&j.motor_impulse)
+        & words.compare(&j.lower_impulse)
+        & words.compare(&j.upper_impulse)
+        & words.compare(&j.hertz)
+        & words.compare(&j.damping_ratio)
+        & words.compare(&j.max_motor_torque)
+        & words.compare(&j.motor_speed)
+        & words.compare(&j.target_angle)
+        & words.compare(&j.lower_angle)
+        & words.compare(&j.upper_angle)
 }
 
 // Whether the words from the indices on are the joint's.
-fn compare_solver_data(j: RevoluteJoint, words: &mut Words<'_>) -> Agreement {
-    words.compare(j.index_a)
-        & words.compare(j.index_b)
-        & words.compare(j.frame_a)
-        & words.compare(j.frame_b)
-        & words.compare(j.rotation_axis_z)
-        & words.compare(j.perp_axis_x)
-        & words.compare(j.perp_axis_y)
-        & words.compare(j.delta_center)
-        & words.compare(j.delta_angle)
-        & words.compare(j.axial_mass)
-        & words.compare(j.spring_softness)
-        & words.compare(j.enable_spring)
-        & words.compare(j.enable_motor)
-        & words.compare(j.enable_limit)
+#[inline(always)]
+fn compare_solver_data(j: &RevoluteJoint, words: &mut Words<'_>) -> Agreement {
+    words.compare(&j.index_a)
+        & words.compare(&j.index_b)
+        & words.compare(&j.frame_a)
+        & words.compare(&j.frame_b)
+        & words.compare(&j.rotation_axis_z)
+        & words.compare(&j.perp_axis_x)
+        & words.compare(&j.perp_axis_y)
+        & words.compare(&j.delta_center)
+        & words.compare(&j.delta_angle)
+        & words.compare(&j.axial_mass)
+        & words.compare(&j.spring_softness)
+        & words.compare(&j.enable_spring)
+        & words.compare(&j.enable_motor)
+        & words.compare(&j.enable_limit)
 }
 
 impl Answer for RevoluteJoint {
-    fn compare(self, words: &mut Words<'_>) -> Agreement {
+    #[inline(always)]
+    fn compare(&self, words: &mut Words<'_>) -> Agreement {
         compare_settings(self, words) & compare_solver_data(self, words)
     }
 }

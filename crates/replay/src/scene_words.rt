@@ -45,8 +45,8 @@ impl Place for JointSim {
             \0\0\0\0\0\0\0\0\0\0\0\0\0\0\0\0\0\0\0\0\0\0\0\0\0\0\x80\x3f",
         );
         let mut nans = Words::of(b"\0\0\xc0\x7f\0\0\xc0\x7f");
-        base.compare(self.base)
-            & nans.compare(self.angles)
+        base.compare(&self.base)
+            & nans.compare(&self.angles)
             & Agreement::from(matches!(self.union_, JointUnion::Other))
     }
 }
@@ -58,6 +58,6 @@ impl Place for BodyState {
             b"\0\0\0\0\0\0\0\0\0\0\0\0\0\0\0\0\0\0\0\0\0\0\0\0\
             \0\0\0\0\0\0\0\0\0\0\0\0\0\0\0\0\0\0\0\0\0\0\0\0\0\0\x80\x3f",
         );
-        words.compare(self)
+        words.compare(&self)
     }
 }

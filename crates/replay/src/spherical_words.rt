@@ -40,44 +40,47 @@ impl Input for SphericalJoint {
 }
 
 // Whether the words before the indices are the joint's.
-fn compare_settings(j: SphericalJoint, words: &mut Words<'_>) -> Agreement {
-    words.compare(j.linear_impulse)
-        & words.compare(j.spring_impulse)
-        & words.compare(j.motor_impulse)
-        & words.compare(j.lower_twist_impulse)
-        & words.compare(j.upper_twist_impulse)
-        & words.compare(j.swing_impulse)
-        & words.compare(j.hertz)
-        & words.compare(j.damping_ratio)
-        & words.compare(j.max_motor_torque)
-        & words.compare(j.motor_velocity)
-        & words.compare(j.lower_twist_angle)
-        & words.compare(j.upper_twist_angle)
-        & words.compare(j.cone_angle)
-        & words.compare(j.target_rotation)
+#[inline(always)]
+fn compare_settings(j: &SphericalJoint, words: &mut Words<'_>) -> Agreement {
+    words.compare(&j.linear_impulse)
+        & words.compare(&j.spring_impulse)
+        & words.compare(&j.motor_impulse)
+        & words.compare(&j.lower_twist_impulse)
+        & words.compare(&j.upper_twist_impulse)
+        & words.compare(&j.swing_impulse)
+        & words.compare(&j.hertz)
+        & words.compare(&j.damping_ratio)
+        & words.compare(&j.max_motor_torque)
+        & words.compare(&j.motor_velocity)
+        & words.compare(&j.lower_twist_angle)
+        & words.compare(&j.upper_twist_angle)
+        & words.compare(&j.cone_angle)
+        & words.compare(&j.target_rotation)
 }
 
 // Whether the words from the indices on are the joint's.
-fn compare_solver_data(j: SphericalJoint, words: &mut Words<'_>) -> Agreement {
-    words.compare(j.index_a)
-        & words.compare(j.index_b)
-        & words.compare(j.frame_a)
-        & words.compare(j.frame_b)
-        & words.compare(j.delta_center)
-        & words.compare(j.swing_axis)
-        & words.compare(j.twist_jacobian)
-        & words.compare(j.rotation_mass)
-        & words.compare(j.swing_mass)
-        & words.compare(j.twist_mass)
-        & words.compare(j.spring_softness)
-        & words.compare(j.enable_spring)
-        & words.compare(j.enable_motor)
-        & words.compare(j.enable_cone_limit)
-        & words.compare(j.enable_twist_limit)
+#[inline(always)]
+fn compare_solver_data(j: &SphericalJoint, words: &mut Words<'_>) -> Agreement {
+    words.compare(&j.index_a)
+        & words.compare(&j.index_b)
+        & words.compare(&j.frame_a)
+        & words.compare(&j.frame_b)
+        & words.compare(&j.delta_center)
+        & words.compare(&j.swing_axis)
+        & words.compare(&j.twist_jacobian)
+        & words.compare(&j.rotation_mass)
+        & words.compare(&j.swing_mass)
+        & words.compare(&j.twist_mass)
+        & words.compare(&j.spring_softness)
+        & words.compare(&j.enable_spring)
+        & words.compare(&j.enable_motor)
+        & words.compare(&j.enable_cone_limit)
+        & words.compare(&j.enable_twist_limit)
 }
 
 impl Answer for SphericalJoint {
-    fn compare(self, words: &mut Words<'_>) -> Agreement {
+    #[inline(always)]
+    fn compare(&self, words: &mut Words<'_>) -> Agreement {
         compare_settings(self, words) & compare_solver_data(self, words)
     }
 }

@@ -74,14 +74,14 @@ impl From<Lent> for Outcome<[BodyState; 40], Report> {
 }
 
 impl Answer for Velocities {
-    fn compare(self, words: &mut Words<'_>) -> Agreement {
-        words.compare((self.v_a, self.w_a)) & words.compare((self.v_b, self.w_b))
+    fn compare(&self, words: &mut Words<'_>) -> Agreement {
+        words.compare(&(self.v_a, self.w_a)) & words.compare(&(self.v_b, self.w_b))
     }
 }
 
 // The marks of a solve.
 impl Answer for Report {
-    fn compare(self, words: &mut Words<'_>) -> Agreement {
-        words.compare((self.perp_mark, self.point_mark))
+    fn compare(&self, words: &mut Words<'_>) -> Agreement {
+        words.compare(&(self.perp_mark, self.point_mark))
     }
 }

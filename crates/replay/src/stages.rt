@@ -86,7 +86,7 @@ fn left<M: Answer>(
     r: Outcome<Velocities, M>,
 ) -> Agreement {
     case.expect(r.refused.is_none());
-    case.answer(OfKind(kind, r.joint));
+    case.answer(OfKind(kind, &r.joint));
     answer_states(&mut case, row.count, &row.left(r.left));
     case.answer(r.marks);
     case.end()
@@ -103,7 +103,7 @@ where
     let body_b: BodyRecord = case.input();
     let r = Outcome::from(prepare(joint, step, body_a, body_b));
     case.expect(r.refused.is_none());
-    case.answer(OfKind(kind, r.joint));
+    case.answer(OfKind(kind, &r.joint));
     case.answer(r.marks);
     case.end()
 }

@@ -19,6 +19,6 @@ pub fn states_of<const N: usize>(case: &mut Case<'_>, count: u32) -> [BodyState;
 pub fn answer_states(case: &mut Case<'_>, count: u32, states: &[BodyState]) {
     let mut words = case.lend(count as usize * STATE_WORDS);
     for state in states.iter().take(count as usize) {
-        case.also(words.compare(*state));
+        case.also(words.compare(state));
     }
 }

@@ -19,7 +19,7 @@ use weld::{prepare_weld_joint, solve_weld_joint, warm_start_weld_joint};
 // Whether the stage answers what the case says.
 fn left<L: Answer, M: Answer>(mut case: Case<'_>, kind: Kind, r: Outcome<L, M>) -> Agreement {
     case.answer(r.number_and_place());
-    case.answer(OfKind(kind, r.joint));
+    case.answer(OfKind(kind, &r.joint));
     case.answer((r.left, r.marks));
     case.end()
 }

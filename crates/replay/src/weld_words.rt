@@ -25,20 +25,21 @@ impl Input for WeldJoint {
 }
 
 impl Answer for WeldJoint {
-    fn compare(self, words: &mut Words<'_>) -> Agreement {
-        words.compare(self.linear_hertz)
-            & words.compare(self.linear_damping_ratio)
-            & words.compare(self.angular_hertz)
-            & words.compare(self.angular_damping_ratio)
-            & words.compare(self.linear_spring)
-            & words.compare(self.angular_spring)
-            & words.compare(self.linear_impulse)
-            & words.compare(self.angular_impulse)
-            & words.compare(self.index_a)
-            & words.compare(self.index_b)
-            & words.compare(self.frame_a)
-            & words.compare(self.frame_b)
-            & words.compare(self.delta_center)
-            & words.compare(self.angular_mass)
+    #[inline(always)]
+    fn compare(&self, words: &mut Words<'_>) -> Agreement {
+        words.compare(&self.linear_hertz)
+            & words.compare(&self.linear_damping_ratio)
+            & words.compare(&self.angular_hertz)
+            & words.compare(&self.angular_damping_ratio)
+            & words.compare(&self.linear_spring)
+            & words.compare(&self.angular_spring)
+            & words.compare(&self.linear_impulse)
+            & words.compare(&self.angular_impulse)
+            & words.compare(&self.index_a)
+            & words.compare(&self.index_b)
+            & words.compare(&self.frame_a)
+            & words.compare(&self.frame_b)
+            & words.compare(&self.delta_center)
+            & words.compare(&self.angular_mass)
     }
 }

@@ -46,6 +46,7 @@ impl<'a> Words<'a> {
         Words { bytes, next: 0 }
     }
 
+    #[inline(always)]
     pub fn skip(&mut self, count: usize)
         ensures value { self.new.bytes.now ≡ self.old.bytes.now }
         ensures next { self.new.next ≡ (self.old.next + count) % 2 ^ 64 }
@@ -53,6 +54,7 @@ impl<'a> Words<'a> {
         self.next = self.next.wrapping_add(count);
     }
 
+    #[inline(always)]
     pub fn word(&mut self) -> u32
         ensures value { result ≡ D.word_at self.old.bytes.now self.old.next }
         ensures rest { self.new.bytes.now ≡ self.old.bytes.now }
@@ -63,6 +65,7 @@ impl<'a> Words<'a> {
         x
     }
 
+    #[inline(always)]
     pub fn float(&mut self) -> f32
         ensures { result ≡ from_bits binary32 (D.word_at self.old.bytes.now self.old.next) }
     {
@@ -70,6 +73,7 @@ impl<'a> Words<'a> {
     }
 
     // A switch is on unless its word is 0. That its word is 0 or 1 is told by comparing.
+    #[inline(always)]
     pub fn switch(&mut self) -> bool
         ensures { result ≡ not (D.word_at self.old.bytes.now self.old.next == 0) }
     {
@@ -91,11 +95,13 @@ impl<'a> Words<'a> {
         self.bytes.len() / 4 == self.next
     }
 
+    #[inline(always)]
     pub fn read<T: Input>(&mut self) -> T {
         T::read(self)
     }
 
-    pub fn compare<T: Answer>(&mut self, x: T) -> Agreement {
+    #[inline(always)]
+    pub fn compare<T: Answer>(&mut self, x: &T) -> Agreement {
         x.compare(self)
     }
 }
@@ -104,8 +110,10 @@ impl<'a> Words<'a> {
 // (A record lists its fields twice, here and in Input, by hand: the two check each other, as case.rt compares what
 // it read, and the gate takes no impl that a derive of the repository's own writes.)
 pub trait Answer: Copy {
-    // Whether the next words are those of the value, bit for bit, where every NaN counts as the same.
-    fn compare(self, words: &mut Words<'_>) -> Agreement;
+    // Whether the next words are those of the value, bit for bit, where every NaN counts as the same. The
+    // value is lent: by value a joint is copied for each part that is compared, and cases by value have 10 in a
+    // hundred more instructions.
+    fn compare(&self, words: &mut Words<'_>) -> Agreement;
 }
 
 // One that stands in the inputs too.
@@ -113,3 +121,6 @@ pub trait Input: Answer {
     // The value of the next words.
     fn read(words: &mut Words<'_>) -> Self;
 }
+
+// One of floats alone. What is read of any words has these words, so nothing is left to compare with them.
+pub trait Floats: Input {}
