@@ -119,7 +119,7 @@ pub fn upper_row_to(
 }
 
 // A pair of limit rows, of the lower limit's impulse and the upper limit's row, which comes second.
-fn limit_rows(lower_impulse: f32, upper: Row<f32>) -> LimitRows
+pub fn limit_rows(lower_impulse: f32, upper: Row<f32>) -> LimitRows
     ensures { result ≡ D.limit_rows lower_impulse upper.impulse upper.velocities }
 {
     let velocities = upper.velocities;

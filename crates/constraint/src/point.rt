@@ -43,7 +43,7 @@ pub fn point_bias(
 }
 
 // The matrix with a mass added on its diagonal.
-fn add_mass(k: Matrix3, mass: f32) -> Matrix3
+pub fn add_mass(k: Matrix3, mass: f32) -> Matrix3
     ensures { result ≡ D.add_mass k mass }
 {
     let mut out = k;

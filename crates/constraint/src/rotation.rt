@@ -17,7 +17,7 @@ pub struct RelativeRotation {
 // q, or -q where q lies on the other side from p, as revolute and weld joints take the second
 // quaternion. This keeps the rotation angle in [-pi, pi].
 #[tactic(auto, unfolding(crate::specs::Rotation::same_polarity))]
-fn same_polarity(p: Quat, q: Quat) -> Quat
+pub fn same_polarity(p: Quat, q: Quat) -> Quat
     ensures { result ≡ D.same_polarity p q }
 {
     if dot_quat(p, q) < 0.0 {

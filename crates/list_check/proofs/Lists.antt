@@ -10,7 +10,7 @@ use lib.Dec.{eqb, ltb, leb}
 use lib.ListN.{length, get_or, drop, length-drop, length-map, get_or-map}
 use Rattle.std.proofs.lemmas.List.{get_or-take, get_or-drop, get_or_default, ext_get_or}
 use lib.Seq.{drop-cons}
-use borrow.Author.Tests.{eq-eqb, ne_eqb, ltb-false, leb-false}
+use borrow.Author.Tests.{eq-eqb, eqb-false, ne_eqb, ltb-false, leb-false}
 use Rattle.std.specs.Simd.{first_chunks}
 use Rattle.std.specs.Prelude.{Result, Ok, Err, ⊤}
 use Rattle.std.specs.Result.{MatchResult, is_ok}
@@ -34,14 +34,14 @@ short_calls (x ∷ []) h = refl
 short_calls (x ∷ y ∷ m) h = absurd (omega arith)
 
 module _ (l : List ℕ) (i : ℕ) where
-  calls_here : i + 1 < length l → calls (drop i l) ≡ call (get_or l i 0) (get_or l (i + 1) 0) ∷ calls (drop (i + 2) l)
+  pub calls_here : i + 1 < length l → calls (drop i l) ≡ call (get_or l i 0) (get_or l (i + 1) 0) ∷ calls (drop (i + 2) l)
   calls_here h =
       let a : i < length l = omega arith in
       let b : suc i < length l = omega arith in
       rw (add-one i, add-two i, drop-cons l i 0 a, drop-cons l (suc i) 0 b)
 
   -- a last byte by itself is no call
-  calls_end : length l ≤ i + 1 → calls (drop i l) ≡ []
+  pub calls_end : length l ≤ i + 1 → calls (drop i l) ≡ []
   calls_end h = short_calls (drop i l) (rw (length-drop i l) (omega arith))
 
 -- a byte of a pair
@@ -92,6 +92,7 @@ tested_cause (Err k) e place m = (caused k, ap (λ x. verdict_answer (Err x)) m)
 
 pub record NoEarly (body_count joint_count bytes : ℕ) : Type 0 where
   pub few_joints : joint_count ≤ 32
+  pub even : bytes % 2 ≡ 0
   pub short : bytes ≤ 8192
 
 no_early : (n m l : ℕ) → early_cause n m l ≡ 0 → NoEarly n m l
@@ -103,7 +104,7 @@ no_early n m l e = by (ltb 32 n) (ltb 32 m) (eqb (l % 2) 1) (ltb 8192 l) refl re
     by false true c d q r t e = absurd (omega arith)
     by false false true d q r t e = absurd (omega arith)
     by false false false true q r t e = absurd (omega arith)
-    by false false false false q r t e = record { few_joints = ltb-false 32 m q; short = ltb-false 8192 l t }
+    by false false false false q r t e = record { few_joints = ltb-false 32 m q; even = omega (arith, eqb-false (l % 2) 1 r); short = ltb-false 8192 l t }
 
 module _ (s : Scene) (l : List ℕ) where
   abbrev early : ℕ

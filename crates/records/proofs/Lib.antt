@@ -1,2 +1,3 @@
 -- What proofs of the crates above cite. Assumes nothing.
+pub mod Cases
 pub mod Causes

@@ -16,6 +16,8 @@ use Rattle.records.specs.declared.body.BodyRecord.{BodyRecord}
 use Rattle.records.specs.declared.joint.RevoluteJoint.{RevoluteJoint}
 use Rattle.records.specs.declared.joint.JointBase.{JointBase}
 use Rattle.records.specs.declared.joint.JointSim.{JointSim}
+use Rattle.records.specs.declared.joint.JointUnion.{JointUnion}
+use Rattle.records.specs.declared.joint.JointUnion.TheVariants.{Revolute, Spherical, Weld, Other}
 use Rattle.records.specs.Joint.{as_revolute, is_revolute, limit_angles, no_angles, after_solve}
 use Rattle.records.specs.Revolute.{with_indices}
 use Rattle.constraint.specs.declared.velocity.Velocities.{Velocities}
@@ -122,6 +124,13 @@ module _ (base : JointBase) (j : RevoluteJoint) (state_a state_b : BodyState) wh
   warm_start_delta_position p q = refl
 
 -- ---- the stages over a joint of any kind
+
+-- a joint that is no revolute joint's record is of another case
+pub other_case : (u : JointUnion) → ((k : RevoluteJoint) → u ≡ Revolute k → ⊥) → is_revolute u ≡ false
+other_case (Revolute r) h = absurd (h r refl)
+other_case (Spherical r) h = refl
+other_case (Weld r) h = refl
+other_case Other h = refl
 
 -- of a context prepare reads h and enable_warm_starting, and a solve h and inv_h
 pub prepare_context : (sim : JointSim) (c d : StepContext) (body_a body_b : BodyRecord) →

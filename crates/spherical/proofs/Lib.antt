@@ -2,3 +2,4 @@
 pub mod Facts
 pub mod Marks
 mod One
+mod Others

@@ -11,6 +11,8 @@ use Rattle.records.specs.declared.body.BodyRecord.{BodyRecord}
 use Rattle.records.specs.declared.joint.WeldJoint.{WeldJoint}
 use Rattle.records.specs.declared.joint.JointBase.{JointBase}
 use Rattle.records.specs.declared.joint.JointSim.{JointSim}
+use Rattle.records.specs.declared.joint.JointUnion.{JointUnion}
+use Rattle.records.specs.declared.joint.JointUnion.TheVariants.{Revolute, Spherical, Weld, Other}
 use Rattle.records.specs.Weld.{with_indices}
 use Rattle.records.specs.Joint.{as_weld, is_weld, no_angles, after_solve}
 use Rattle.constraint.specs.Answer.{PreparedAnswer}
@@ -62,6 +64,13 @@ unfolding warm_start_weld velocities_of
 warm_start_delta_position base j a b p q = refl
 
 -- ---- the stages over a joint of any kind
+
+-- a joint that is no weld joint's record is of another case
+pub other_case : (u : JointUnion) → ((k : WeldJoint) → u ≡ Weld k → ⊥) → is_weld u ≡ false
+other_case (Revolute r) h = refl
+other_case (Spherical r) h = refl
+other_case (Weld r) h = absurd (h r refl)
+other_case Other h = refl
 
 -- of a context prepare reads h and enable_warm_starting, and a solve nothing
 pub prepare_context : (sim : JointSim) (c d : StepContext) (body_a body_b : BodyRecord)
