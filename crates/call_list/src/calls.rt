@@ -1,6 +1,7 @@
 // The calls of a list, worked one after the other on a scene. Nothing is tested here: a call that a run
 // would refuse is worked as its definition says.
-ghost use Rattle.std.specs.Prelude.{◌≡◌, take};
+ghost use Rattle.std.specs.Prelude.{◌≡◌, ◌/◌, length, take};
+ghost use Rattle.std.specs.Simd.{first_chunks};
 ghost use Rattle.scene.specs.Calls.{calls};
 ghost use Rattle.scene.specs.Plain.{run_calls};
 ghost use Rattle.scene.specs.Scene.{with_bodies_and_joints};
@@ -16,6 +17,15 @@ use revolute::{solve_revolute_joint, warm_start_revolute_joint};
 use scene::Scene;
 use spherical::{solve_spherical_joint, warm_start_spherical_joint};
 use weld::{solve_weld_joint, warm_start_weld_joint};
+
+// The calls of a list, two bytes to each; a last byte by itself is none.
+fn calls_of(list: &[u8]) -> &[[u8; 2]]
+    ensures front { result.now ≡ first_chunks 2 (length list.now / 2) list.now }
+    ensures front_len { length result.now ≡ length list.now / 2 }
+{
+    let (calls, _) = list.as_chunks::<2>();
+    calls
+}
 
 // The joint as a solve leaves it: by a function the array's element is stored from the answer in place.
 fn solved_joint(solved: Solved) -> JointSim
@@ -39,20 +49,19 @@ fn scene_left(scene: Scene, joints: [JointSim; 32], bodies: [BodyState; 33]) -> 
     }
 }
 
-// The calls in order, each on what the one before it left; a last byte by itself is none. A stage is a byte
-// of the list, and one above 2, which a run refuses, is worked as 2. Bodies and joints
-// are read and stored one element at a time; index -1 leads to the last position of `bodies`, which holds
-// the identity state. The joint is read in each arm, so that only what its stage needs is loaded, and stored
-// there by a solve, so that only what the solve changes is written. Bodies are read again before they are
-// stored: A, so that it need not be kept through the stage, and B, since both indices may name one body.
+// The calls in order, each on what the one before it left. A stage is a byte of the list, and one above 2,
+// which a run refuses, is worked as 2. Bodies and joints are read and stored one element at a time; index -1
+// leads to the last position of `bodies`, which holds the identity state. The joint is read in each arm, so
+// that only what its stage needs is loaded, and stored there by a solve, so that only what the solve changes
+// is written. Bodies are read again before they are stored: A, so that it need not be kept through the stage,
+// and B, since both indices may name one body.
 pub fn run_calls(scene: Scene, list: &[u8]) -> Scene
     ensures { result ≡ run_calls (calls list.now) scene }
 {
     let context = scene.context;
     let mut joints = scene.joints;
     let mut bodies = with_identity(scene);
-    let (calls, _) = list.as_chunks::<2>();
-    for &[slot, stage] in calls {
+    for &[slot, stage] in calls_of(list) {
         let at = joint_position(slot);
         let Positions { at_a, at_b } = positions_of(joints[at]);
         let a = bodies[at_a];

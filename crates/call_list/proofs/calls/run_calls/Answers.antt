@@ -17,10 +17,10 @@ unfolding code
 loop-slot-preserved c =
     let s = c.args.scene in
     let l = c.args.list.now in
-    let pairs = c.as_chunks.result.0.now in
+    let pairs = c.calls_of-slot-items.result.now in
     let k = c.loop-slot.slot-index in
-    let front = c.as_chunks.ensures.front in
-    let many = c.as_chunks.ensures.front_len in
+    let front = c.calls_of-slot-items.ensures.front in
+    let many = c.calls_of-slot-items.ensures.front_len in
     let slot = slot_at l pairs k front many in
     let stage = stage_at l pairs k front many in
     let w = c.loop-slot.invariant in
@@ -63,5 +63,5 @@ loop-slot-preserved c =
 pub returns : goal.returns
 returns c =
     c.scene_left.ensures
-    ∙ invariant_done c.args.scene c.args.list.now c.as_chunks.result.0.now c.loop-slot.joints c.loop-slot.bodies c.loop-slot.slot-index
-    c.loop-slot.invariant c.as_chunks.ensures.front c.as_chunks.ensures.front_len c.loop-slot-test.false
+    ∙ invariant_done c.args.scene c.args.list.now c.calls_of-slot-items.result.now c.loop-slot.joints c.loop-slot.bodies c.loop-slot.slot-index
+    c.loop-slot.invariant c.calls_of-slot-items.ensures.front c.calls_of-slot-items.ensures.front_len c.loop-slot-test.false
