@@ -60,7 +60,6 @@ impl Kind {
 }
 
 impl Input for LimitAngles {
-    #[inline(always)]
     fn read(words: &mut Words<'_>) -> LimitAngles {
         LimitAngles {
             twist: words.read(),
@@ -71,7 +70,6 @@ impl Input for LimitAngles {
 
 // The angles are counted apart.
 impl Answer for LimitAngles {
-    #[inline(always)]
     fn compare(&self, words: &mut Words<'_>) -> Agreement {
         let twist = words.compare(&self.twist);
         let swing = words.compare(&self.swing);
@@ -85,7 +83,6 @@ struct UnionOfKind<'a>(Kind, &'a JointUnion);
 
 // Whether a record is of the case, and the words are its. Where it is not, those of the case's are passed.
 impl Answer for UnionOfKind<'_> {
-    #[inline(always)]
     fn compare(&self, words: &mut Words<'_>) -> Agreement {
         match (self.0, self.1) {
             (Kind::Revolute, JointUnion::Revolute(j)) => words.compare(j),

@@ -7,7 +7,6 @@ use records::joint::{JointBase, JointType};
 use solver::StepContext;
 
 impl Answer for JointType {
-    #[inline(always)]
     fn compare(&self, words: &mut Words<'_>) -> Agreement {
         words.compare(&(*self as u32))
     }
@@ -31,7 +30,6 @@ impl Input for JointType {
 }
 
 impl Answer for JointBase {
-    #[inline(always)]
     fn compare(&self, words: &mut Words<'_>) -> Agreement {
         words.compare(&self.joint_id)
             & words.compare(&self.body_id_a)

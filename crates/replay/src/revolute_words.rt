@@ -38,7 +38,6 @@ impl Input for RevoluteJoint {
 }
 
 // Whether the words before the indices are the joint's.
-#[inline(always)]
 fn compare_settings(j: &RevoluteJoint, words: &mut Words<'_>) -> Agreement {
     words.compare(&j.linear_impulse)
         & words.compare(&j.perp_impulse)
@@ -56,7 +55,6 @@ fn compare_settings(j: &RevoluteJoint, words: &mut Words<'_>) -> Agreement {
 }
 
 // Whether the words from the indices on are the joint's.
-#[inline(always)]
 fn compare_solver_data(j: &RevoluteJoint, words: &mut Words<'_>) -> Agreement {
     words.compare(&j.index_a)
         & words.compare(&j.index_b)
@@ -75,7 +73,6 @@ fn compare_solver_data(j: &RevoluteJoint, words: &mut Words<'_>) -> Agreement {
 }
 
 impl Answer for RevoluteJoint {
-    #[inline(always)]
     fn compare(&self, words: &mut Words<'_>) -> Agreement {
         compare_settings(self, words) & compare_solver_data(self, words)
     }

@@ -40,7 +40,6 @@ impl Input for SphericalJoint {
 }
 
 // Whether the words before the indices are the joint's.
-#[inline(always)]
 fn compare_settings(j: &SphericalJoint, words: &mut Words<'_>) -> Agreement {
     words.compare(&j.linear_impulse)
         & words.compare(&j.spring_impulse)
@@ -59,7 +58,6 @@ fn compare_settings(j: &SphericalJoint, words: &mut Words<'_>) -> Agreement {
 }
 
 // Whether the words from the indices on are the joint's.
-#[inline(always)]
 fn compare_solver_data(j: &SphericalJoint, words: &mut Words<'_>) -> Agreement {
     words.compare(&j.index_a)
         & words.compare(&j.index_b)
@@ -79,7 +77,6 @@ fn compare_solver_data(j: &SphericalJoint, words: &mut Words<'_>) -> Agreement {
 }
 
 impl Answer for SphericalJoint {
-    #[inline(always)]
     fn compare(&self, words: &mut Words<'_>) -> Agreement {
         compare_settings(self, words) & compare_solver_data(self, words)
     }

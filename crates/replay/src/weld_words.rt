@@ -25,7 +25,6 @@ impl Input for WeldJoint {
 }
 
 impl Answer for WeldJoint {
-    #[inline(always)]
     fn compare(&self, words: &mut Words<'_>) -> Agreement {
         words.compare(&self.linear_hertz)
             & words.compare(&self.linear_damping_ratio)

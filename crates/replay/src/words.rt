@@ -111,7 +111,7 @@ impl<'a> Words<'a> {
 // it read, and the gate takes no impl that a derive of the repository's own writes.)
 pub trait Answer: Copy {
     // Whether the next words are those of the value, bit for bit, where every NaN counts as the same. The
-    // value is lent: by value a joint is copied for each part that is compared, and cases by value have 10 in a
+    // value is lent: by value a joint is copied for each part that is compared, and cases by value have 9 in a
     // hundred more instructions.
     fn compare(&self, words: &mut Words<'_>) -> Agreement;
 }
