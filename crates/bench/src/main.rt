@@ -1,11 +1,11 @@
 // The call lists, a kind of joints and a kind of list to a row, then the two leaves: the rows of
-// `bench ROW REPEATS`, as bench_wall's `work_rows` tells.
+// `bench ROW REPEATS`, as bench_wall's `work_rows_of` tells.
 #![tactic(auto)]
 
 mod leaves;
 mod lists;
 
-use bench_wall::rows::{Rows, work_rows};
+use bench_wall::rows::{Rows, work_rows_of};
 use bench_wall::wall::Kind;
 use leaves::{arctangents, roots};
 use lists::run_lists;
@@ -40,5 +40,5 @@ impl Rows for CallLists {
 }
 
 fn main(rt: HostRuntime) -> io::Result<()> {
-    work_rows::<CallLists, _>(&rt, 0..18)
+    work_rows_of::<CallLists, _>(&rt, 0..18)
 }

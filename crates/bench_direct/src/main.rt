@@ -1,11 +1,11 @@
 // The direct calls, a kind and a stage to a row: the rows of `bench_direct ROW REPEATS`, as bench_wall's
-// `work_rows` tells.
+// `work_rows_of` tells.
 #![tactic(auto)]
 
 mod gate;
 mod rows;
 
-use bench_wall::rows::{Rows, work_rows};
+use bench_wall::rows::{Rows, work_rows_of};
 use bench_wall::wall::Kind;
 use rows::{solves, warm_starts};
 use std::io;
@@ -29,5 +29,5 @@ impl Rows for DirectCalls {
 
 // The rows of the bench before these are those of the programs bench and bench_stages.
 fn main(rt: HostRuntime) -> io::Result<()> {
-    work_rows::<DirectCalls, _>(&rt, 30..39)
+    work_rows_of::<DirectCalls, _>(&rt, 30..39)
 }

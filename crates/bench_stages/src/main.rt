@@ -1,5 +1,5 @@
 // The stages by value, a kind and a stage to a row: the rows of `bench_stages ROW REPEATS`, as
-// bench_wall's `work_rows` tells.
+// bench_wall's `work_rows_of` tells.
 #![tactic(auto)]
 
 mod gates;
@@ -7,7 +7,7 @@ mod prepared;
 mod rows;
 mod stages;
 
-use bench_wall::rows::{Rows, work_rows};
+use bench_wall::rows::{Rows, work_rows_of};
 use rows::{prepares, solves, warm_starts};
 use stages::{Revolute, Spherical, Weld};
 use std::io;
@@ -34,5 +34,5 @@ impl Rows for StagesByValue {
 
 // The rows of the bench before these are the program bench's.
 fn main(rt: HostRuntime) -> io::Result<()> {
-    work_rows::<StagesByValue, _>(&rt, 18..30)
+    work_rows_of::<StagesByValue, _>(&rt, 18..30)
 }
