@@ -64,9 +64,9 @@ class File:
 
 def source_files(root, crate):
     top = os.path.join(root, "crates", crate, "src")
-    # a test is not what `rt check` proves, so an edit of it shows nothing
-    is_source = lambda f: f.endswith(".rt") and f != "tests.rt"
-    found = [os.path.join(folder, f) for folder, _, files in os.walk(top) for f in files if is_source(f)]
+    # `rt check` does not read a test, so an edit of one shows nothing
+    named = [os.path.join(folder, f) for folder, _, files in os.walk(top) for f in files if f != "tests.rt"]
+    found = [f for f in named if f.endswith(".rt")]
     return sorted(os.path.relpath(f, top) for f in found)
 
 

@@ -48,7 +48,7 @@ impl Print for Program<'_> {
     }
 
     fn write_all(&self, _bytes: &[u8]) -> io::Result<()> {
-        Ok(())
+        Err(io::Error::from(io::ErrorKind::Unsupported))
     }
 }
 
